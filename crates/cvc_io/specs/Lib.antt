@@ -1,0 +1,6 @@
+pub mod Causes
+pub mod Files
+pub mod Bytes
+pub mod MemFiles
+pub mod Memory
+pub mod MemSink

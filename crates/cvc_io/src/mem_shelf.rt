@@ -1,0 +1,190 @@
+//! A shelf in memory.
+ghost use Rattle.std.specs.Prelude.{◌≡◌, ◌+◌, ◌<◌, ◌≤◌, ◌↔◌, ℕ, Option, Some, None, [], ◌∷◌, ◌++◌, OnOk, OnErr, IfSome, take, drop, length};
+ghost use Rattle.cvc_io.specs.Causes.{Rose};
+ghost use Rattle.std.specs.Option.{ForSome};
+ghost use Rattle.cvc_io.specs.MemFiles.{IsOpenFile, IsFound, place_of, count_at, bump};
+
+use crate::{OpenFailed, ReadFailed, Shelf};
+use cvc_base::{NoMemory, Text};
+use std::alloc::Global;
+
+// The later of two files of one name counts.
+#[derive(Drop)]
+struct MemFile {
+    name: Text,
+    bytes: Text,
+}
+
+// The file at `place` stands open, and `at` of its bytes were read.
+#[derive(Clone, Copy)]
+struct OpenFile {
+    place: usize,
+    at: usize,
+}
+
+/// Files in memory. The calls that open and read are numbered together from 1, and those whose number was given to `fail_at`
+/// fail; so does opening a name that it doesn't hold.
+#[derive(Drop)]
+pub struct MemShelf {
+    alloc: Global,
+    files: Vec<MemFile>,
+    // how often a call on each file has failed, and how often any call has
+    failures: Vec<u64>,
+    all: u64,
+    calls: u64,
+    failing: Vec<u64>,
+    reading: Option<OpenFile>,
+    ghost counted: { length failures.items ≡ length files.items },
+    ghost opened: { ForSome reading (IsOpenFile files.items) },
+}
+
+// Counts a failure, up to the last value of the counter.
+fn count(failures: &mut u64)
+    ensures one { failures.new ≡ bump failures.old }
+    ensures later { failures.old ≤ failures.new }
+{
+    *failures = failures.saturating_add(1);
+}
+
+// Counts a failure on the file at `place`.
+fn count_failure(failures: &mut [u64], all: &mut u64, place: usize)
+    requires { place < length failures.old }
+    ensures later { (o : Option ℕ) → count_at failures.old all.old o ≤ count_at failures.new all.new o }
+    ensures cause { Rose (count_at failures.old all.old (Some place)) (count_at failures.new all.new (Some place)) }
+{
+    count(&mut failures[place]);
+    count(all);
+}
+
+// The place of the last file of this name.
+fn find(files: &[MemFile], name: &[u8]) -> Option<usize>
+    ensures place { result ≡ place_of files.now name.now }
+    ensures found { IfSome result (IsFound files.now name.now) }
+{
+    let mut place = None;
+    for (i, file) in files.iter().enumerate() {
+        if file.name.bytes() == name {
+            place = Some(i);
+        }
+    }
+    place
+}
+
+// Copies the bytes from `at` on to the front of the buffer, as far as both go, and says how many.
+fn copy_from(bytes: &[u8], at: usize, buf: &mut [u8]) -> usize
+    requires start { at ≤ length bytes.now }
+    requires room { 0 < length buf.old }
+    ensures bound { result ≤ length buf.new }
+    ensures inside { at + result ≤ length bytes.now }
+    ensures copied { drop at bytes.now ≡ take result buf.new ++ drop (at + result) bytes.now }
+    ensures end { result ≡ 0 → drop (at + result) bytes.now ≡ [] }
+{
+    let rest = &bytes[at..];
+    let taken = rest.len().min(buf.len());
+    buf[..taken].copy_from_slice(&rest[..taken]);
+    taken
+}
+
+impl MemShelf {
+    ghost use Rattle.cvc_io.specs.Files.{File};
+    ghost use Rattle.cvc_io.specs.Memory.{files_of, standing_of, counts_of, failing_of, calls_of};
+
+    /// A shelf without files.
+    pub fn new(alloc: Global) -> MemShelf
+        ensures files { files_of result ≡ [] }
+        ensures standing { standing_of result ≡ None }
+        ensures failing { failing_of result ≡ [] }
+        ensures calls { calls_of result ≡ 0 }
+    {
+        MemShelf {
+            alloc,
+            files: Vec::new(alloc),
+            failures: Vec::new(alloc),
+            all: 0,
+            calls: 0,
+            failing: Vec::new(alloc),
+            reading: None,
+        }
+    }
+
+    /// Puts a file on the shelf. A name that is added again has the later bytes.
+    pub fn add(&mut self, name: &[u8], bytes: &[u8]) -> Result<(), NoMemory>
+        requires { standing_of self.old ≡ None }
+        ensures ok { OnOk result (files_of self.new ≡ files_of self.old ++ record { name = name.now; bytes = bytes.now } ∷ []) }
+        ensures err { OnErr result (files_of self.new ≡ files_of self.old) }
+        ensures standing { standing_of self.new ≡ None }
+        ensures failing { failing_of self.new ≡ failing_of self.old }
+        ensures calls { calls_of self.new ≡ calls_of self.old }
+    {
+        let file = MemFile {
+            name: Text::of(self.alloc, name)?,
+            bytes: Text::of(self.alloc, bytes)?,
+        };
+        self.failures.reserve(1)?;
+        self.files.push(file)?;
+        self.failures.push_reserved(0);
+        Ok(())
+    }
+
+    /// The call of this number is to fail.
+    pub fn fail_at(&mut self, call: u64) -> Result<(), NoMemory>
+        ensures ok { OnOk result (failing_of self.new ≡ failing_of self.old ++ call ∷ []) }
+        ensures err { OnErr result (failing_of self.new ≡ failing_of self.old) }
+        ensures files { files_of self.new ≡ files_of self.old }
+        ensures standing { standing_of self.new ≡ standing_of self.old }
+        ensures calls { calls_of self.new ≡ calls_of self.old }
+    {
+        self.failing.push(call)?;
+        Ok(())
+    }
+}
+
+impl Shelf for MemShelf {
+    ghost use Rattle.cvc_io.specs.Memory.{files_of, standing_of, counts_of};
+
+    ghost files = { λ s. Some (files_of s) };
+
+    ghost standing = { standing_of };
+
+    ghost faults = { counts_of };
+
+    fn open_file(&mut self, name: &[u8]) -> Result<(), OpenFailed> {
+        count(&mut self.calls);
+        let fails = self.failing.contains(&self.calls);
+        match find(&self.files, name) {
+            Some(place) if !fails => {
+                self.reading = Some(OpenFile { place, at: 0 });
+                Ok(())
+            }
+            Some(place) => {
+                count_failure(&mut self.failures, &mut self.all, place);
+                Err(OpenFailed)
+            }
+            None => {
+                count(&mut self.all);
+                Err(OpenFailed)
+            }
+        }
+    }
+
+    fn read(&mut self, buf: &mut [u8]) -> Result<usize, ReadFailed> {
+        let Some(open) = self.reading else {
+            unreachable!()
+        };
+        count(&mut self.calls);
+        if self.failing.contains(&self.calls) {
+            count_failure(&mut self.failures, &mut self.all, open.place);
+            return Err(ReadFailed);
+        }
+        let taken = copy_from(self.files[open.place].bytes.bytes(), open.at, buf);
+        self.reading = Some(OpenFile {
+            place: open.place,
+            at: open.at + taken,
+        });
+        Ok(taken)
+    }
+
+    fn close_file(&mut self) {
+        self.reading = None;
+    }
+}

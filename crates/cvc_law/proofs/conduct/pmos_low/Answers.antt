@@ -1,0 +1,12 @@
+use Rattle.std.proofs.Common.{◌≡◌, ℤ, ◌+ℤ◌, to_z, of_z, w64, Some, ap, ◌∙◌, arith}
+use Rattle.std.proofs.lemmas.Int.{ints}
+use Rattle.cvc_law.proofs.conduct.pmos_low.Goals as goal
+
+pub returns : goal.returns
+returns c =
+    let near : to_z w64 (of_z w64 c.get-low.result) ≡ c.get-low.result = omega (arith, ints) in
+    let gate : to_z w64 (of_z w64 c.get-gate_low.result) ≡ c.get-gate_low.result = omega (arith, ints) in
+    let threshold : to_z w64 (of_z w64 c.get.result) ≡ c.get.result = omega (arith, ints) in
+    let bound : to_z w64 (of_z w64 (c.get-gate_low.result +ℤ c.get.result)) ≡ c.get-gate_low.result +ℤ c.get.result = omega (arith, ints) in
+    let whole : to_z w64 (of_z w64 c.max.result) ≡ c.max.result = omega (arith, ints) in
+    rw (c.in_ok-near.was, c.in_ok-gate.was, ← c.get-low.ensures.same, ← c.get-gate_low.ensures.same, ← c.get.ensures.same) (rw (near, gate, threshold, bound) at (ap (λ (v : ℤ). Some v) (whole ∙ c.max.ensures.value)))

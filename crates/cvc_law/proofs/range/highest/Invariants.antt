@@ -1,0 +1,6 @@
+use Rattle.std.proofs.Common.{◌≡◌, take}
+use Rattle.cvc_law.specs.Network.{greatest_high}
+use Rattle.cvc_law.proofs.range.highest.Given as goal
+
+abbrev pub invariant-loop-declared : goal.invariant-loop-declared
+invariant-loop-declared l = l.ceiling ≡ greatest_high (take l.declared-index l.fixed)

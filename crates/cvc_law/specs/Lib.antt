@@ -1,0 +1,11 @@
+pub mod Network
+pub mod Family
+pub mod Conduction
+pub mod Least
+pub mod Monotone
+pub mod Reach
+pub mod ReachLeast
+pub mod ReachWord
+pub mod Rules
+pub mod Fans
+pub mod Kept

@@ -1,0 +1,146 @@
+//! What a device gives to the net at one of its ends.
+ghost use Rattle.std.specs.Prelude.{◌≡◌, ◌<◌, Some, slice_get};
+ghost use Rattle.cvc_law.specs.declared.device.Device.{Device};
+ghost use Rattle.cvc_law.specs.Network.{devices};
+ghost use Rattle.cvc_law.specs.Conduction.{low_from, high_from, diode_gives, end_gives, offered, kept_within, given, given_at};
+
+use crate::{Circuit, Device, Interval, Reads};
+use cvc_base::{DevId, Kind, Mv, Volts};
+
+/// The millivolts of a voltage that may be unknown.
+fn millivolts(voltage: Option<Mv>) -> Option<i64>
+    ensures { result ≡ voltage }
+{
+    voltage.map(|v| v.get())
+}
+
+/// An nmos hands on a low where its gate can be high enough for it.
+fn nmos_low(volts: &Volts, near: &Interval, gate: &Interval) -> Option<i64>
+    ensures { result ≡ low_from Kind.Nmos volts.now near.now gate.now }
+{
+    let low = near.low?.get();
+    let gate_high = gate.high?.get();
+    (low + volts.threshold.get() <= gate_high).then_some(low)
+}
+
+/// A pmos hands on a low, but none lower than its lowest gate and the threshold.
+fn pmos_low(volts: &Volts, near: &Interval, gate: &Interval) -> Option<i64>
+    ensures { result ≡ low_from Kind.Pmos volts.now near.now gate.now }
+{
+    let low = near.low?.get();
+    let gate_low = gate.low?.get();
+    Some(low.max(gate_low + volts.threshold.get()))
+}
+
+/// An nmos hands on a high, but none higher than its highest gate less the threshold.
+fn nmos_high(volts: &Volts, near: &Interval, gate: &Interval) -> Option<i64>
+    ensures { result ≡ high_from Kind.Nmos volts.now near.now gate.now }
+{
+    let high = near.high?.get();
+    let gate_high = gate.high?.get();
+    Some(high.min(gate_high - volts.threshold.get()))
+}
+
+/// A pmos hands on a high where its gate can be low enough for it.
+fn pmos_high(volts: &Volts, near: &Interval, gate: &Interval) -> Option<i64>
+    ensures { result ≡ high_from Kind.Pmos volts.now near.now gate.now }
+{
+    let high = near.high?.get();
+    let gate_low = gate.low?.get();
+    (gate_low + volts.threshold.get() <= high).then_some(high)
+}
+
+/// The low that a device hands on from the net at its near end.
+fn low_from(kind: Kind, volts: &Volts, near: &Interval, gate: &Interval) -> Option<i64>
+    ensures { result ≡ low_from kind volts.now near.now gate.now }
+{
+    match kind {
+        Kind::Resistor | Kind::Inductor => millivolts(near.low),
+        Kind::Nmos => nmos_low(volts, near, gate),
+        Kind::Pmos => pmos_low(volts, near, gate),
+        Kind::Diode | Kind::Capacitor | Kind::Bipolar => None,
+    }
+}
+
+/// The high that a device hands on from the net at its near end.
+fn high_from(kind: Kind, volts: &Volts, near: &Interval, gate: &Interval) -> Option<i64>
+    ensures { result ≡ high_from kind volts.now near.now gate.now }
+{
+    match kind {
+        Kind::Resistor | Kind::Inductor => millivolts(near.high),
+        Kind::Nmos => nmos_high(volts, near, gate),
+        Kind::Pmos => pmos_high(volts, near, gate),
+        Kind::Diode | Kind::Capacitor | Kind::Bipolar => None,
+    }
+}
+
+/// A diode gives its cathode a high, by slot 1, and its anode a low, by slot 2.
+fn diode_gives(volts: &Volts, slot: u8, reads: &Reads) -> Option<i64>
+    requires { slot < 4 }
+    ensures { result ≡ diode_gives volts.now slot reads.now }
+{
+    match slot {
+        1 => Some(reads.a.high?.get() - volts.drop.get()),
+        2 => Some(reads.b.low?.get() + volts.drop.get()),
+        _ => None,
+    }
+}
+
+/// What any other device gives by a slot.
+fn end_gives(kind: Kind, volts: &Volts, slot: u8, reads: &Reads) -> Option<i64>
+    requires { slot < 4 }
+    ensures { result ≡ end_gives kind volts.now slot reads.now }
+{
+    match slot {
+        0 => low_from(kind, volts, &reads.a, &reads.g),
+        1 => high_from(kind, volts, &reads.a, &reads.g),
+        2 => low_from(kind, volts, &reads.b, &reads.g),
+        _ => high_from(kind, volts, &reads.b, &reads.g),
+    }
+}
+
+/// What a device gives by a slot, before the floor and the ceiling are looked at.
+fn offered(kind: Kind, volts: &Volts, slot: u8, reads: &Reads) -> Option<i64>
+    requires { slot < 4 }
+    ensures { result ≡ offered kind volts.now slot reads.now }
+{
+    match kind {
+        Kind::Diode => diode_gives(volts, slot, reads),
+        Kind::Nmos
+        | Kind::Pmos
+        | Kind::Resistor
+        | Kind::Capacitor
+        | Kind::Inductor
+        | Kind::Bipolar => end_gives(kind, volts, slot, reads),
+    }
+}
+
+/// The value, if it lies from the floor to the ceiling.
+fn kept_within(floor: Option<Mv>, ceiling: Option<Mv>, value: Option<i64>) -> Option<i64>
+    ensures { result ≡ kept_within floor ceiling value }
+{
+    let floor = floor?.get();
+    let ceiling = ceiling?.get();
+    let value = value?;
+    (floor <= value && value <= ceiling).then_some(value)
+}
+
+/// What this device gives by a slot on these reads.
+pub(crate) fn given(circuit: &Circuit, device: &Device, slot: u8, reads: &Reads) -> Option<i64>
+    requires { slot < 4 }
+    ensures { result ≡ given circuit.now device.now slot reads.now }
+{
+    let value = offered(device.kind, &device.volts, slot, reads);
+    kept_within(circuit.floor(), circuit.ceiling(), value)
+}
+
+/// The value in millivolts that a slot of the device gives on these reads.
+/// Slots 0 and 1 give a low and a high to the end b, slots 2 and 3 a low and a high to the end a.
+pub fn gives(circuit: &Circuit, d: DevId, slot: u8, reads: &Reads) -> Option<i64>
+    requires device { d.0 < devices circuit.now }
+    requires slot { slot < 4 }
+    ensures at { result ≡ given_at circuit.now d.0 slot reads.now }
+    ensures device { (dev : Device) → slice_get circuit.now.devices d.0 ≡ Some dev → result ≡ given circuit.now dev slot reads.now }
+{
+    given(circuit, circuit.device(d), slot, reads)
+}

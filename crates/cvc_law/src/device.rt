@@ -1,0 +1,65 @@
+//! Devices of a circuit.
+ghost use Rattle.std.specs.Prelude.{◌≡◌, ◌<◌, length};
+ghost use Rattle.cvc_law.specs.Network.{pin, pins_of, end_a, end_b, gate, is_mos, conducts};
+
+use arrayvec::ArrayVec;
+use cvc_base::{Kind, NetId, Volts};
+
+/// A device: its kind, the nets of its pins in card order, and the voltages of its model.
+#[derive(Debug, Drop)]
+pub struct Device {
+    pub kind: Kind,
+    pub pins: ArrayVec<NetId, 4>,
+    pub volts: Volts,
+}
+
+/// Whether the kind is a MOS, which alone has a gate.
+pub(crate) fn is_mos(kind: Kind) -> bool
+    ensures { result ≡ is_mos kind }
+{
+    matches!(kind, Kind::Nmos | Kind::Pmos)
+}
+
+/// Whether devices of the kind can hand a voltage on at all.
+pub(crate) fn conducts(kind: Kind) -> bool
+    ensures { result ≡ conducts kind }
+{
+    !matches!(kind, Kind::Capacitor | Kind::Bipolar)
+}
+
+/// The net of the pin at this place of the card.
+fn pin(device: &Device, i: usize) -> NetId
+    requires { i < length device.now.pins.items }
+    ensures { result.0 ≡ pin device.now i }
+{
+    device.pins.as_slice()[i]
+}
+
+/// The net at the end a: the drain, the anode or the first net.
+pub(crate) fn end_a(device: &Device) -> NetId
+    requires { length device.now.pins.items ≡ pins_of device.now.kind }
+    ensures { result.0 ≡ end_a device.now }
+{
+    pin(device, 0)
+}
+
+/// The net at the end b: the source, the cathode or the second net.
+pub(crate) fn end_b(device: &Device) -> NetId
+    requires { length device.now.pins.items ≡ pins_of device.now.kind }
+    ensures { result.0 ≡ end_b device.now }
+{
+    match device.kind {
+        Kind::Nmos | Kind::Pmos => pin(device, 2),
+        Kind::Resistor | Kind::Diode | Kind::Capacitor | Kind::Inductor | Kind::Bipolar => {
+            pin(device, 1)
+        }
+    }
+}
+
+/// The net of the second pin, which is the gate of a MOS.
+pub(crate) fn gate(device: &Device) -> NetId
+    requires { length device.now.pins.items ≡ pins_of device.now.kind }
+    ensures { result.0 ≡ gate device.now }
+{
+    pin(device, 1)
+}

@@ -1,0 +1,12 @@
+pub mod Lines
+pub mod Report
+pub mod Refusals
+pub mod Forms
+pub mod Reading
+pub mod Outcome
+pub mod Codes
+pub mod Names
+pub mod ReadFiles
+pub mod Views
+pub mod Resistors
+pub mod Endings

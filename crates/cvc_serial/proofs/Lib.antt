@@ -1,0 +1,3 @@
+pub mod Queues
+pub mod Widens
+pub mod Settles

@@ -1,0 +1,4 @@
+pub mod Queue
+pub mod Widening
+pub mod Settling
+pub mod TestCircuits

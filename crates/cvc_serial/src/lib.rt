@@ -1,0 +1,12 @@
+//! The one-thread engine: it settles a circuit at its least closed voltage family.
+#![tactic(auto)]
+
+mod engine;
+mod settle;
+mod waiting;
+mod widen;
+
+pub use settle::settle_serial;
+
+#[cfg(test)]
+mod tests;

@@ -1,0 +1,10 @@
+pub mod Digits
+pub mod Tens
+pub mod Cut
+pub mod Counting
+pub mod Capped
+pub mod Exceeding
+pub mod Fronts
+pub mod Splitting
+pub mod Found
+pub mod Answered

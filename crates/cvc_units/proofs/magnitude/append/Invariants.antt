@@ -1,0 +1,8 @@
+use Rattle.std.proofs.Common.{◌≡◌, ◌<◌, ◌^◌, drop}
+use Rattle.std.specs.Str.Parse.{digits_value_after}
+use Rattle.cvc_units.proofs.magnitude.append.Given as goal
+
+abbrev pub invariant-loop-digit : goal.invariant-loop-digit
+invariant-loop-digit l =
+    (digits_value_after 10 l.count (drop l.digit-index l.digits) ≡ digits_value_after 10 l.fn.count l.fn.digits)
+    × (l.count < 10 ^ 36)

@@ -1,0 +1,3 @@
+pub mod Split
+pub mod Number
+pub mod Reading
