@@ -1,0 +1,7 @@
+pub mod Worked
+pub mod Fronts
+pub mod Plainness
+pub mod Gathering
+pub mod Finding
+pub mod Twice
+pub mod Assembling

@@ -1,0 +1,11 @@
+use Rattle.std.proofs.Common.{rules}
+use Rattle.cvc_card.specs.Reading.{item_of, parts_held, texts_of}
+use Rattle.cvc_card.proofs.Gathering.{goes_on, ends}
+use Rattle.cvc_card.proofs.parts.parts_of.Goals as goal
+
+pub loop-rest-preserved : goal.loop-rest-preserved
+loop-rest-preserved c =
+    goes_on c.args.form (texts_of c.args.tokens.now) (texts_of c.loop-rest.rest.now) (texts_of c.in_ok-item.after.now) (parts_held c.loop-rest.parts) (parts_held c.add.new.self) (item_of c.in_ok-item.item) c.loop-rest.invariant c.in_ok-item.ensures.0 c.in_ok-add.ensures
+
+pub returns : goal.returns
+returns c = ends c.args.form (texts_of c.args.tokens.now) c.loop-rest.rest.now (parts_held c.loop-rest.parts) c.loop-rest.invariant (search rules)

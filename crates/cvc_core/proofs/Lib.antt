@@ -1,0 +1,14 @@
+pub mod Placing
+pub mod Building
+pub mod Keeping
+pub mod Widening
+pub mod EachStep
+pub mod Quiet
+pub mod Moving
+pub mod Starting
+pub mod Offering
+pub mod Trying
+pub mod MarkWords
+pub mod Openings
+pub mod Listed
+pub mod Dispatching

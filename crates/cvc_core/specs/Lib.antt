@@ -1,0 +1,11 @@
+pub mod State
+pub mod Steps
+pub mod Events
+pub mod Sound
+pub mod Start
+pub mod Measured
+pub mod Moved
+pub mod Laws
+pub mod Store
+pub mod Scale
+pub mod Tried

@@ -1,0 +1,10 @@
+pub mod Texts
+pub mod Adding
+pub mod Streams
+pub mod Grouping
+pub mod Faults
+pub mod Standing
+pub mod LineEnds
+pub mod Readings
+pub mod Handing
+pub mod Finding

@@ -1,0 +1,102 @@
+//! Whole power files.
+ghost use Rattle.std.specs.Prelude.{◌≡◌, [], ◌∷◌, ◌++◌, Ok, Err, IfOk, map, not};
+ghost use Rattle.std.specs.Bool.{OnTrue};
+ghost use Rattle.std.specs.List.{list_any};
+ghost use Rattle.std.specs.Str.{bytes_eq};
+ghost use Rattle.cvc_power.specs.Power.{IfAt, items_of, power_of, row_of, rows_or_fault, verdicts};
+
+use crate::row::{PowerRow, span_of};
+use cvc_base::{Cause, Fault, FileKind, ItemList, Line, NoMemory, Place, Refusal, Text};
+use cvc_lex::Lexer;
+use indexmap::IndexSet;
+use std::alloc::Global;
+
+/// The rows of a power file, in order. No two have one name.
+pub type Power = ItemList<PowerRow>;
+
+fn fault_at(line: u32, cause: Cause) -> Refusal
+    ensures { result ≡ Refusal.At (record { place = record { file = FileKind.Power; line = line }; cause = cause }) }
+{
+    Refusal::At(Fault {
+        place: Place {
+            file: FileKind::Power,
+            line,
+        },
+        cause,
+    })
+}
+
+// The row of a line, by itself.
+fn read_row(alloc: Global, line: &Line) -> Result<PowerRow, Refusal>
+    ensures row { IfOk result (λ row. row_of line.now ≡ Ok row) }
+    ensures fault { IfAt result (λ fault. row_of line.now ≡ Err fault) }
+{
+    let span = match span_of(line.tokens.as_slice()) {
+        Ok(span) => span,
+        Err(cause) => return Err(fault_at(line.first, cause)),
+    };
+    let Ok(name) = Text::of(alloc, line.tokens.get(0).text.bytes()) else {
+        return Err(Refusal::NoMemory);
+    };
+    Ok(PowerRow {
+        name,
+        low: span.low,
+        high: span.high,
+        line: line.first,
+    })
+}
+
+// Puts a row last and answers true, unless there is a row of its name.
+fn add(
+    alloc: Global,
+    rows: &mut Power,
+    names: &mut IndexSet<Vec<u8>>,
+    row: PowerRow,
+) -> Result<bool, NoMemory>
+    ensures free { IfOk result (λ free. free ≡ not (list_any (bytes_eq row.name) (map items_of names.old.keys))) }
+    ensures row { IfOk result (λ free. OnTrue free (rows.new ≡ rows.old ++ row ∷ [])) }
+    ensures name { IfOk result (λ free. OnTrue free (map items_of names.new.keys ≡ map items_of names.old.keys ++ row.name ∷ [])) }
+{
+    let name = Vec::from_slice(alloc, row.name.bytes())?;
+    if !names.insert(name)? {
+        return Ok(false);
+    }
+    rows.push(row)?;
+    Ok(true)
+}
+
+// The rows of the lines that the lexer still has.
+fn read_rows(alloc: Global, lexer: &mut Lexer) -> Result<Power, Refusal>
+    ensures rows { IfOk result (λ rows. rows_or_fault (verdicts [] lexer.old.waiting) ≡ Ok rows) }
+    ensures fault { IfAt result (λ fault. rows_or_fault (verdicts [] lexer.old.waiting) ≡ Err fault) }
+{
+    let mut rows = Power::new(alloc);
+    let mut names = IndexSet::new(alloc);
+    while let Some(line) = lexer.next_line() {
+        let row = read_row(alloc, &line)?;
+        match add(alloc, &mut rows, &mut names, row) {
+            Ok(true) => {}
+            Ok(false) => return Err(fault_at(line.first, Cause::TwiceRow)),
+            Err(NoMemory) => return Err(Refusal::NoMemory),
+        }
+    }
+    Ok(rows)
+}
+
+/// The rows of a power file, or its first fault. Faults stand by line; on one line those of its bytes and tokens come first, then
+/// `BadRow`, `BadVoltage`, `MinAboveMax` and `TwiceRow` in this order. It is linear in the file.
+pub fn read_power(alloc: Global, bytes: &[u8]) -> Result<Power, Refusal>
+    ensures rows { IfOk result (λ power. power_of bytes.now ≡ Ok power) }
+    ensures fault { IfAt result (λ fault. power_of bytes.now ≡ Err fault) }
+{
+    let Ok(mut lexer) = Lexer::new(alloc, FileKind::Power) else {
+        return Err(Refusal::NoMemory);
+    };
+    // a refusal is kept: the end of the file answers it again
+    let _ = lexer.feed(bytes);
+    let ended = lexer.finish();
+    // the rows before the line of a lexical fault are judged first
+    let rows = read_rows(alloc, &mut lexer)?;
+    ended?;
+    Ok(rows)
+}
