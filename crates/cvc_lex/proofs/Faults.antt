@@ -291,9 +291,9 @@ fixed kind s t f (At_limit e h is) = elim (cases_Bool (list_any is_line_feed t))
 pub sure-append : (kind : FileKind) (s t : List ℕ) (f : Fault) → sure_fault kind s ≡ Some f → sure_fault kind (s ++ t) ≡ Some f
 sure-append kind s t f e = (fixed kind s t f (sure_cases kind s f e)).sure
 
--- a sure fault is the first fault of every file that begins so
-pub lexical-append : (kind : FileKind) (s t : List ℕ) (f : Fault) → sure_fault kind s ≡ Some f → lexical kind (s ++ t) ≡ Some f
-lexical-append kind s t f e = (fixed kind s t f (sure_cases kind s f e)).whole
+-- a sure fault is the first fault of every file that begins so, and no line is closed after it
+pub decided-append : (kind : FileKind) (s t : List ℕ) (f : Fault) → sure_fault kind s ≡ Some f → (lexical kind (s ++ t) ≡ Some f) × (closed_at_end kind (s ++ t) ≡ closed_so_far kind s)
+decided-append kind s t f e = let x = fixed kind s t f (sure_cases kind s f e) in (x.whole, x.closed_end)
 
 pub so_far-append : (kind : FileKind) (s t : List ℕ) (f : Fault) → sure_fault kind s ≡ Some f → closed_so_far kind (s ++ t) ≡ closed_so_far kind s
 so_far-append kind s t f e = (fixed kind s t f (sure_cases kind s f e)).closed_same

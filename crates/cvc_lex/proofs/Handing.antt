@@ -11,7 +11,7 @@ use Rattle.cvc_lex.specs.Physical.{read, ended, open_rest}
 use Rattle.cvc_lex.specs.Lines.{sure_fault, lexical, closed, opened, first_fault, closed_so_far}
 use Rattle.cvc_lex.specs.Lexing.{Lexing, StandsFor, HasRead, closed_in, fault_in, Refuses, IfAt, IsFirstFaultOf, refusal_in, TakesFirst, Hands}
 use Rattle.cvc_lex.proofs.Standing.{stands_none, stands_at, stands_part, none_facts, at_facts, part_facts, inside}
-use Rattle.cvc_lex.proofs.Faults.{lexical-append, first-nil, so_far-none, sure_from_none}
+use Rattle.cvc_lex.proofs.Faults.{decided-append, first-nil, so_far-none, sure_from_none}
 use Rattle.cvc_lex.proofs.Streams.{ended-none, rest-nil}
 use Rattle.cvc_lex.proofs.Grouping.{closed-nil, opened-nil}
 
@@ -24,7 +24,7 @@ refuses y s n b (Err NoMemory) e r st = tt
 
 pub sure_at : (y : Lexing) (s : List ℕ) (n : ℕ) (result : Result (Unit {0}) Refusal) → y.finished ≡ false → y.refused ≡ refusal_in result → StandsFor y s n → IfAt result (IsFirstFaultOf y.file s)
 sure_at y s n (Ok done) e r st = tt
-sure_at y s n (Err (At fault)) e r st = λ more. lexical-append y.file s more fault (at_facts y s n false e fault r st).0
+sure_at y s n (Err (At fault)) e r st = λ more. decided-append y.file s more fault (at_facts y s n false e fault r st).0
 sure_at y s n (Err NoMemory) e r st = tt
 
 -- ## Lines

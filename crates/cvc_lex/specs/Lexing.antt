@@ -72,9 +72,9 @@ Refuses fault (Ok done) = fault ≡ None
 Refuses fault (Err (At first)) = fault ≡ Some first
 Refuses fault (Err NoMemory) = Unit {0}
 
--- the first fault of every file that begins with this stream
+-- whatever follows this stream, the file has this first fault, and no more lines than are closed so far
 abbrev pub IsFirstFaultOf : FileKind → List ℕ → Fault → Type 0
-IsFirstFaultOf kind stream fault = (more : List ℕ) → lexical kind (stream ++ more) ≡ Some fault
+IsFirstFaultOf kind stream fault = (more : List ℕ) → (lexical kind (stream ++ more) ≡ Some fault) × (closed_at_end kind (stream ++ more) ≡ closed_so_far kind stream)
 
 abbrev pub IfAt : Result (Unit {0}) Refusal → (Fault → Type 0) → Type 0
 IfAt (Ok done) P = Unit {0}
