@@ -5,3 +5,4 @@ pub mod Gathering
 pub mod Finding
 pub mod Twice
 pub mod Assembling
+pub mod Formed

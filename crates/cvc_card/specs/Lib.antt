@@ -5,3 +5,4 @@ pub mod Parts
 pub mod Card
 pub mod Refused
 pub mod Reading
+pub mod Formed

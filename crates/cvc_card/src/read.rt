@@ -1,6 +1,7 @@
 //! Reading a card.
 ghost use Rattle.std.specs.Prelude.{◌≡◌, ◌<◌, length, IfOk, IfErr, Ok};
 ghost use Rattle.cvc_card.specs.Card.{card_from, card_of};
+ghost use Rattle.cvc_card.specs.Formed.{IsFormed};
 ghost use Rattle.cvc_card.specs.Refused.{IsRefused};
 ghost use Rattle.cvc_card.specs.Reading.{GivesCard, parts_held};
 
@@ -57,6 +58,7 @@ fn card(alloc: Global, line: &Line) -> Result<Card, Stop>
 pub fn read_card(alloc: Global, line: &Line) -> Result<Card, Refusal>
     requires { 0 < length line.now.tokens }
     ensures card { IfOk result (λ card. card_of line.now ≡ Ok card) }
+    ensures formed { IfOk result (IsFormed line.now.first) }
     ensures fault { IfErr result (IsRefused line.now) }
 {
     match card(alloc, line) {
