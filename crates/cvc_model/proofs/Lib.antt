@@ -1,0 +1,7 @@
+pub mod Verdicts
+pub mod Whole
+pub mod Places
+pub mod Entries
+pub mod Tokens
+pub mod Stepping
+pub mod Walking

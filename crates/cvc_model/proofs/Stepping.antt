@@ -1,0 +1,47 @@
+-- One test more, and one item more, of those that are left.
+use Rattle.std.proofs.Common.{◌≡◌, ℕ, suc, ◌+◌, ◌<◌, ◌≤◌, List, [], ◌∷◌, map, length, get_or, drop, Result, Ok, sym, ap, subst, ◌∙◌, add-one, drop-cons, drop_of_length-le}
+use Rattle.cvc_base.specs.declared.cause.Cause.{Cause}
+use Rattle.cvc_base.specs.declared.device.Kind.{Kind}
+use Rattle.cvc_base.specs.declared.line.Token.{Token}
+use Rattle.cvc_base.specs.declared.param.Param.{Param}
+use Rattle.cvc_model.specs.declared.choosing.Outcome.{Outcome}
+use Rattle.cvc_model.specs.declared.choosing.Outcome.TheVariants.{Holds}
+use Rattle.cvc_model.specs.declared.draft.Draft.{Draft}
+use Rattle.cvc_model.specs.declared.row.Test.{Test}
+use Rattle.cvc_model.specs.declared.stop.Stop.{Stop}
+use Rattle.cvc_model.specs.declared.stop.Stop.TheVariants.{At, NoMemory}
+use Rattle.cvc_model.specs.Chosen.{outcome_of, outcome_of_test, while_holds}
+use Rattle.cvc_model.specs.Drafts.{AtCause, step, steps, then_with}
+use Rattle.cvc_model.specs.Items.{text_of}
+
+drop_read : {A : Type 0} (xs : List A) (i : ℕ) (x : A) → i < length xs → x ≡ get_or xs i x → drop i xs ≡ x ∷ drop (i + 1) xs
+drop_read xs i x within at = drop-cons xs i x within ∙ ap (λ y. y ∷ drop (suc i) xs) (sym at) ∙ ap (λ n. x ∷ drop n xs) (sym (add-one i))
+
+module _ (tests items : List Test) (same : items ≡ tests) (params : List Param) (i : ℕ) (so_far : outcome_of tests params ≡ outcome_of (drop i tests) params) where
+  pub one_test : (test : Test) → i < length items → test ≡ get_or items i test → (o : Outcome) → o ≡ outcome_of_test test params
+      → outcome_of tests params ≡ while_holds o (outcome_of (drop (i + 1) tests) params)
+  unfolding outcome_of
+  one_test test within at o e =
+      so_far ∙ ap (λ ts. outcome_of ts params) (subst (λ (ts : List Test). drop i ts ≡ test ∷ drop (i + 1) ts) same (drop_read items i test within at))
+      ∙ ap (λ r. while_holds r (outcome_of (drop (i + 1) tests) params)) (sym e)
+
+  pub no_test : length items ≤ i → Holds ≡ outcome_of tests params
+  unfolding outcome_of
+  no_test past = sym (so_far ∙ ap (λ ts. outcome_of ts params) (subst (λ (ts : List Test). drop i ts ≡ []) same (drop_of_length-le _ past)))
+
+pub AtCause-weaker : (stop : Stop) (P Q : Cause → Type 0) → ((cause : Cause) → P cause → Q cause) → AtCause stop P → AtCause stop Q
+AtCause-weaker (At cause) P Q f h = f cause h
+AtCause-weaker NoMemory P Q f h = tt
+
+module _ (kind : Kind) (items : List Token) (answer : Result Draft Cause) (draft : Draft) (i : ℕ) (so_far : answer ≡ steps kind draft (map text_of (drop i items))) where
+  pub one_item : (item : Token) → i < length items → item ≡ get_or items i item → (text : List ℕ) → text ≡ item.text → (r : Result Draft Cause) → step kind draft text ≡ r
+      → answer ≡ then_with r (λ next. steps kind next (map text_of (drop (i + 1) items)))
+  unfolding steps
+  one_item item within at text same r e =
+      so_far ∙ ap (λ ts. steps kind draft (map text_of ts)) (drop_read items i item within at)
+      ∙ ap (λ t. then_with (step kind draft t) (λ next. steps kind next (map text_of (drop (i + 1) items)))) (sym same)
+      ∙ ap (λ s. then_with s (λ next. steps kind next (map text_of (drop (i + 1) items)))) e
+
+  pub no_item : length items ≤ i → answer ≡ Ok draft
+  unfolding steps
+  no_item past = so_far ∙ ap (λ ts. steps kind draft (map text_of ts)) (drop_of_length-le _ past)

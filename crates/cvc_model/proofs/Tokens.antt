@@ -1,0 +1,64 @@
+-- The row of a line by its first two tokens.
+use Rattle.std.proofs.Common.{◌≡◌, ℕ, ◌<◌, ◌≤◌, List, [], ◌∷◌, map, length, get_or, drop, Some, None, Ok, Err, refl, sym, ap, ◌∙◌, arith, ◌-◌, take, length-drop}
+use Rattle.std.proofs.lemmas.List.{take_all}
+use Rattle.cvc_base.specs.declared.cause.Cause.{Cause}
+use Rattle.cvc_base.specs.declared.cause.Cause.TheVariants.{BadRow, UnknownKind}
+use Rattle.cvc_base.specs.declared.device.Kind.{Kind}
+use Rattle.cvc_base.specs.declared.device.Volts.{Volts}
+use Rattle.cvc_base.specs.declared.line.Line.{Line}
+use Rattle.cvc_base.specs.declared.line.Token.{Token}
+use Rattle.cvc_model.specs.declared.draft.Draft.{Draft}
+use Rattle.cvc_model.specs.Words.{kind_of}
+use Rattle.cvc_model.specs.Items.{text_of}
+use Rattle.cvc_model.specs.Drafts.{no_draft, steps, then_with}
+use Rattle.cvc_model.specs.Rows.{row_from, row_in, row_of, row_with, volts_of}
+
+pub two_or_more : (number : ℕ) (ts : List Token) (name word : Token) → 2 ≤ length ts → name ≡ get_or ts 0 name → word ≡ get_or ts 1 word
+    → row_in number (map text_of ts) ≡ row_with number name.text (kind_of word.text) (map text_of (drop 2 ts))
+unfolding row_in
+two_or_more number [] name word h e f = absurd (omega arith)
+two_or_more number (a ∷ []) name word h e f = absurd (omega arith)
+two_or_more number (a ∷ b ∷ ts) name word h e f = let p = sym e in let q = sym f in λ i. row_with number (p i).text (kind_of (q i).text) (map text_of ts)
+
+pub too_few : (number : ℕ) (ts : List Token) → length ts < 2 → row_in number (map text_of ts) ≡ Err BadRow
+unfolding row_in
+too_few number [] h = refl
+too_few number (a ∷ []) h = refl
+too_few number (a ∷ b ∷ ts) h = absurd (omega arith)
+
+-- what was read of a line, and what it makes of its row
+module _ (line : Line) (ts : List Token) (same : ts ≡ line.tokens) where
+  pub short : length ts < 2 → row_of line ≡ Err BadRow
+  short h = ap (λ us. row_in line.first (map text_of us)) (sym same) ∙ too_few line.first ts h
+
+  pub rest_of : take (length ts - 2) (drop 2 ts) ≡ drop 2 ts
+  rest_of = take_all (length ts - 2) (drop 2 ts) (omega (arith, length-drop {A = Token}))
+
+  module _ (name word : Token) (within : 2 ≤ length ts) (at_name : name ≡ get_or ts 0 name) (at_word : word ≡ get_or ts 1 word) (w : List ℕ) (read : w ≡ word.text)
+      (items : List Token) (kept : items ≡ drop 2 ts) where
+    as_read : row_of line ≡ row_with line.first name.text (kind_of w) (map text_of items)
+    as_read = ap (λ us. row_in line.first (map text_of us)) (sym same) ∙ two_or_more line.first ts name word within at_name at_word
+        ∙ ap (λ t. row_with line.first name.text (kind_of t) (map text_of (drop 2 ts))) (sym read)
+        ∙ ap (λ us. row_with line.first name.text (kind_of w) (map text_of us)) (sym kept)
+
+    pub unknown : kind_of w ≡ None → row_of line ≡ Err UnknownKind
+    unknown e = as_read ∙ ap (λ k. row_with line.first name.text k (map text_of items)) e
+
+    module _ (kind : Kind) (of_kind : kind_of w ≡ Some kind) where
+      with_items : row_of line ≡ then_with (steps kind no_draft (map text_of items)) (row_from line.first name.text kind)
+      with_items = as_read ∙ ap (λ k. row_with line.first name.text k (map text_of items)) of_kind
+
+      pub bad_item : (cause : Cause) → steps kind no_draft (map text_of items) ≡ Err cause → row_of line ≡ Err cause
+      bad_item cause e = with_items ∙ ap (λ d. then_with d (row_from line.first name.text kind)) e
+
+      module _ (draft : Draft) (drafted : steps kind no_draft (map text_of items) ≡ Ok draft) where
+        with_draft : row_of line ≡ row_from line.first name.text kind draft
+        with_draft = with_items ∙ ap (λ d. then_with d (row_from line.first name.text kind)) drafted
+
+        pub bad_volts : (cause : Cause) → volts_of kind draft.voltages ≡ Err cause → row_of line ≡ Err cause
+        bad_volts cause e = with_draft ∙ ap (λ v. then_with v (λ volts. Ok (record { name = name.text; kind = kind; volts = volts; tests = draft.tests; line = line.first }))) e
+
+        pub the_row : (volts : Volts) → volts_of kind draft.voltages ≡ Ok volts → (n : List ℕ) → n ≡ name.text
+            → row_of line ≡ Ok (record { name = n; kind = kind; volts = volts; tests = draft.tests; line = line.first })
+        the_row volts e n f = with_draft ∙ ap (λ v. then_with v (λ volts. Ok (record { name = name.text; kind = kind; volts = volts; tests = draft.tests; line = line.first }))) e
+            ∙ ap (λ t. Ok (record { name = t; kind = kind; volts = volts; tests = draft.tests; line = line.first })) (sym f)

@@ -1,0 +1,32 @@
+use Rattle.std.proofs.Common.{◌∙◌, sym}
+use Rattle.std.proofs.lemmas.Result.{err_from_is_err_and}
+use Rattle.cvc_model.proofs.Stepping.{AtCause-weaker}
+use Rattle.cvc_model.proofs.Tokens.{rest_of, short, unknown, bad_item, bad_volts, the_row}
+use Rattle.cvc_model.proofs.reading.read_row.Goals as goal
+
+pub returns-in_default-clause-fault : goal.returns-in_default-clause-fault
+returns-in_default-clause-fault c = short c.args.line.now c.as_slice.result.now c.as_slice.ensures c.in_default.len_below
+
+pub returns-in_default-kind_of-clause-fault : goal.returns-in_default-kind_of-clause-fault
+returns-in_default-kind_of-clause-fault c =
+    unknown c.args.line.now c.as_slice.result.now c.as_slice.ensures c.name-item.result c.word-item.result c.in-len2-up.len_at_least c.name-item.is c.word-item.is
+    c.bytes.result.now c.bytes.ensures _ (rest_of c.args.line.now c.as_slice.result.now c.as_slice.ensures) (sym c.in_default-kind_of.ensures)
+
+pub returns-in_err-draft-clause-fault : goal.returns-in_err-draft-clause-fault
+returns-in_err-draft-clause-fault c =
+    let p = err_from_is_err_and c.from_residual.result c.from_residual.ensures.1 in
+    rw (p.1, p.2) (AtCause-weaker c.in_err-draft.field-0.0 _ _
+    (λ cause bad. bad_item c.args.line.now c.as_slice.result.now c.as_slice.ensures c.name-item.result c.word-item.result c.in-len2-up.len_at_least c.name-item.is c.word-item.is
+    c.bytes.result.now c.bytes.ensures _ (rest_of c.args.line.now c.as_slice.result.now c.as_slice.ensures) c.in-Some.kind (sym c.in-Some.ensures) cause bad)
+    c.in_err-draft.ensures.fault)
+
+pub returns-in-Err-clause-fault : goal.returns-in-Err-clause-fault
+returns-in-Err-clause-fault c =
+    bad_volts c.args.line.now c.as_slice.result.now c.as_slice.ensures c.name-item.result c.word-item.result c.in-len2-up.len_at_least c.name-item.is c.word-item.is
+    c.bytes.result.now c.bytes.ensures _ (rest_of c.args.line.now c.as_slice.result.now c.as_slice.ensures) c.in-Some.kind (sym c.in-Some.ensures) c.in_ok-draft.draft c.in_ok-draft.ensures.draft c.in-Err.cause (sym c.in-Err.ensures)
+
+pub returns-clause-row : goal.returns-clause-row
+returns-clause-row c =
+    the_row c.args.line.now c.as_slice.result.now c.as_slice.ensures c.name-item.result c.word-item.result c.in-len2-up.len_at_least c.name-item.is c.word-item.is
+    c.bytes.result.now c.bytes.ensures _ (rest_of c.args.line.now c.as_slice.result.now c.as_slice.ensures) c.in-Some.kind (sym c.in-Some.ensures) c.in_ok-draft.draft c.in_ok-draft.ensures.draft c.in-Ok.volts (sym c.in-Ok.ensures)
+    c.in_ok-of.field-0 (c.in_ok-of.ensures ∙ c.bytes-2.ensures)

@@ -1,0 +1,11 @@
+use Rattle.std.proofs.Common.{◌≡◌, map, length}
+use Rattle.cvc_model.specs.Models.{rows_or_fault, verdict}
+use Rattle.cvc_model.proofs.Verdicts.{behind}
+use Rattle.cvc_model.proofs.reading.read_rows.Given as goal
+
+-- the verdicts on the lines that wait decide the rest
+abbrev pub invariant-loop-line : goal.invariant-loop-line
+invariant-loop-line l = rows_or_fault (map verdict l.fn.lexer.waiting) ≡ behind l.rows (rows_or_fault (map verdict l.lexer.waiting))
+
+abbrev pub decreases-loop-line : goal.decreases-loop-line
+decreases-loop-line l = length l.lexer.waiting

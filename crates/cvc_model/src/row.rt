@@ -1,0 +1,81 @@
+//! The rows of a model file.
+ghost use Rattle.std.specs.Prelude.{◌≡◌, pos, unwrap_or};
+ghost use Rattle.cvc_model.specs.Rows.{magnitude_of, threshold_of, volts_of as volts_in};
+
+use crate::key::Voltages;
+use cvc_base::{Cause, ItemList, Kind, Mv, Text, Volts};
+
+/// What a row asks of a parameter: that it is less than a number, or else at least that number. The number is in units of 10 to the
+/// power -24, as a parameter's own is.
+#[derive(Debug, Drop)]
+pub struct Test {
+    pub param: Text,
+    pub less: bool,
+    pub number: i128,
+}
+
+/// A list of tests.
+pub type Tests = ItemList<Test>;
+
+/// The model of the devices of a name whose parameters pass all tests. `line` is the row's line in its file, from 1.
+#[derive(Debug, Drop)]
+pub struct ModelRow {
+    pub name: Text,
+    pub kind: Kind,
+    pub volts: Volts,
+    pub tests: Tests,
+    pub line: u32,
+}
+
+fn zero() -> Mv
+    ensures { result ≡ pos 0 }
+{
+    Mv::new(0).unwrap()
+}
+
+fn magnitude(voltage: Mv) -> Mv
+    ensures { result ≡ magnitude_of voltage }
+{
+    Mv::new(voltage.get().abs()).unwrap()
+}
+
+fn or_zero(voltage: Option<Mv>) -> Mv
+    ensures { result ≡ unwrap_or voltage (pos 0) }
+{
+    match voltage {
+        Some(voltage) => voltage,
+        None => zero(),
+    }
+}
+
+// The threshold of a row; `None` where a kind that needs one lacks it.
+fn threshold(kind: Kind, vth: Option<Mv>) -> Option<Mv>
+    ensures { result ≡ threshold_of kind vth }
+{
+    match (kind, vth) {
+        (Kind::Nmos, _) => vth,
+        (Kind::Pmos, Some(voltage)) => Some(magnitude(voltage)),
+        (Kind::Pmos, None) => None,
+        _ => Some(zero()),
+    }
+}
+
+// The voltages of a row of this kind.
+pub(crate) fn volts_of(kind: Kind, given: &Voltages) -> Result<Volts, Cause>
+    ensures { result ≡ volts_in kind given.now }
+{
+    let Some(threshold) = threshold(kind, given.vth) else {
+        return Err(Cause::MissingVth);
+    };
+    Ok(Volts {
+        threshold,
+        drop: or_zero(given.vf),
+        junction: or_zero(given.vj),
+        vgs: given.vgs,
+        vgd: given.vgd,
+        vds: given.vds,
+        vbs: given.vbs,
+        vbd: given.vbd,
+        vbg: given.vbg,
+    })
+}

@@ -1,0 +1,58 @@
+//! Words without regard to case, and voltages.
+ghost use Rattle.std.specs.Prelude.{◌≡◌, find};
+ghost use Rattle.std.specs.Str.{str_eq_ignore_ascii_case};
+ghost use Rattle.cvc_units.specs.Number.{millivolts_of};
+ghost use Rattle.cvc_model.specs.Words.{word_of_kind, kinds, kind_of as kind_in, voltage_from};
+
+use cvc_base::{Cause, Kind, Mv};
+use cvc_units::read_mv;
+
+const KINDS: [Kind; 7] = [
+    Kind::Nmos,
+    Kind::Pmos,
+    Kind::Resistor,
+    Kind::Diode,
+    Kind::Capacitor,
+    Kind::Inductor,
+    Kind::Bipolar,
+];
+
+// Whether the texts are one word, without regard to case.
+pub(crate) fn is_word(text: &[u8], word: &[u8]) -> bool
+    ensures { result ≡ str_eq_ignore_ascii_case text.now word.now }
+{
+    text.eq_ignore_ascii_case(word)
+}
+
+fn kind_word(kind: Kind) -> &'static [u8]
+    ensures { result.now ≡ word_of_kind kind }
+{
+    match kind {
+        Kind::Nmos => b"nmos",
+        Kind::Pmos => b"pmos",
+        Kind::Resistor => b"resistor",
+        Kind::Diode => b"diode",
+        Kind::Capacitor => b"capacitor",
+        Kind::Inductor => b"inductor",
+        Kind::Bipolar => b"bipolar",
+    }
+}
+
+// The kind that a word names.
+pub(crate) fn kind_of(text: &[u8]) -> Option<Kind>
+    ensures { result ≡ kind_in text.now }
+{
+    KINDS
+        .iter()
+        .copied()
+        .find(|kind| is_word(text, kind_word(*kind)))
+}
+
+pub(crate) fn voltage(text: &[u8]) -> Result<Mv, Cause>
+    ensures { result ≡ voltage_from (millivolts_of text.now) }
+{
+    match read_mv(text) {
+        Ok(millivolts) => Mv::new(millivolts).ok_or(Cause::BadVoltage),
+        Err(_) => Err(Cause::BadVoltage),
+    }
+}
