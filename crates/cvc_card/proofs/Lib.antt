@@ -5,4 +5,5 @@ pub mod Gathering
 pub mod Finding
 pub mod Twice
 pub mod Assembling
+pub mod FormNames
 pub mod Formed
