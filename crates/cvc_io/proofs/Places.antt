@@ -9,8 +9,9 @@ use Rattle.std.proofs.lemmas.List.{take_more, take-append-drop, drop-drop, take_
 use Rattle.cvc_io.specs.Causes.{Rose}
 use Rattle.cvc_io.specs.Files.{File, Files, bytes_of, content, later_or, Standing, IsOpened}
 use Rattle.cvc_io.specs.MemFiles.{file_of, file_at, no_file, place_of, later_place, standing_at, count_at, IsFound, IsOpenFile}
-use Rattle.cvc_io.specs.declared.mem_shelf.MemFile.{MemFile}
-use Rattle.cvc_io.specs.declared.mem_shelf.OpenFile.{OpenFile}
+use Rattle.cvc_io.specs.SureFiles.{rest_of, standing_with}
+use Rattle.cvc_io.specs.declared.held.MemFile.{MemFile}
+use Rattle.cvc_io.specs.declared.held.OpenFile.{OpenFile}
 
 pushed_step : (o : Option ℕ) (x same : Bool) (n : ℕ) → later_place (cond x (Some n) o) same ≡ cond x (Some (suc n)) (later_place o same)
 pushed_step o true same n = refl
@@ -85,3 +86,9 @@ copied s buf got at n le fits after =
     let is : got ≡ take n (drop at s) = after ∙ ap (take n) whole in
     let long : length got ≡ n = ap length is ∙ length-take-le n (drop at s) few in
     drop_split s at n ∙ ap (λ (t : List ℕ). t ++ drop (at + n) s) (sym is ∙ sym (take_at got (drop n buf) n long))
+
+-- what a name has on a shelf where a name that is lacking has no bytes
+pub opens_surely : (files : List MemFile) (name : List ℕ) (o : Option ℕ) → place_of files name ≡ o
+    → IsSomeAnd (standing_with true (rest_of files (option_map (λ k. record { place = k; at = 0 }) o))) (IsOpened (Some (map file_of files)) name)
+opens_surely files name None e = record { named = tt; whole = rw (missing files name e) refl }
+opens_surely files name (Some k) e = record { named = tt; whole = rw ((found files name k e).bytes) refl }

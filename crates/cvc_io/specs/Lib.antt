@@ -4,3 +4,5 @@ pub mod Bytes
 pub mod MemFiles
 pub mod Memory
 pub mod MemSink
+pub mod SureFiles
+pub mod CountSink

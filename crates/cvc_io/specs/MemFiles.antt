@@ -2,8 +2,8 @@
 use Rattle.std.specs.Prelude.{◌≡◌, ℕ, zero, suc, ◌+◌, ◌-◌, ◌^◌, ◌<◌, ◌≤◌, min, List, [], ◌∷◌, map, drop, length, Option, Some, None, Bool, if◌then◌else◌, slice_index, slice_index_or}
 use Rattle.std.specs.Str.{bytes_eq}
 use Rattle.cvc_io.specs.Files.{File, Files, Standing, bytes_of}
-use Rattle.cvc_io.specs.declared.mem_shelf.MemFile.{MemFile}
-use Rattle.cvc_io.specs.declared.mem_shelf.OpenFile.{OpenFile}
+use Rattle.cvc_io.specs.declared.held.MemFile.{MemFile}
+use Rattle.cvc_io.specs.declared.held.OpenFile.{OpenFile}
 
 abbrev pub file_of : MemFile → File
 file_of f = record { name = f.name; bytes = f.bytes }

@@ -2,14 +2,18 @@
 //! outside, with implementations in memory and over the real files and standard output.
 #![tactic(auto)]
 
+mod count_sink;
 mod error;
 mod file_shelf;
+mod held;
 mod mem_shelf;
 mod mem_sink;
 mod shelf;
 mod sink;
 mod std_sink;
+mod sure_shelf;
 
+pub use count_sink::CountSink;
 pub use error::{OpenFailed, ReadFailed, WriteFailed};
 pub use file_shelf::FileShelf;
 pub use mem_shelf::MemShelf;
@@ -17,6 +21,7 @@ pub use mem_sink::MemSink;
 pub use shelf::Shelf;
 pub use sink::Sink;
 pub use std_sink::StdSink;
+pub use sure_shelf::SureShelf;
 
 #[cfg(test)]
 mod tests;

@@ -1,26 +1,13 @@
-//! A shelf in memory.
-ghost use Rattle.std.specs.Prelude.{◌≡◌, ◌+◌, ◌<◌, ◌≤◌, ◌↔◌, ℕ, Option, Some, None, [], ◌∷◌, ◌++◌, OnOk, OnErr, IfSome, take, drop, length};
+//! A shelf in memory that can fail.
+ghost use Rattle.std.specs.Prelude.{◌≡◌, ◌<◌, ◌≤◌, ℕ, Option, Some, None, [], ◌∷◌, ◌++◌, OnOk, OnErr, length};
 ghost use Rattle.cvc_io.specs.Causes.{Rose};
 ghost use Rattle.std.specs.Option.{ForSome};
-ghost use Rattle.cvc_io.specs.MemFiles.{IsOpenFile, IsFound, place_of, count_at, bump};
+ghost use Rattle.cvc_io.specs.MemFiles.{IsOpenFile, count_at, bump};
 
+use crate::held::{MemFile, OpenFile, copy_from, find};
 use crate::{OpenFailed, ReadFailed, Shelf};
 use cvc_base::{NoMemory, Text};
 use std::alloc::Global;
-
-// The later of two files of one name counts.
-#[derive(Drop)]
-struct MemFile {
-    name: Text,
-    bytes: Text,
-}
-
-// The file at `place` stands open, and `at` of its bytes were read.
-#[derive(Clone, Copy)]
-struct OpenFile {
-    place: usize,
-    at: usize,
-}
 
 /// Files in memory. The calls that open and read are numbered together from 1, and those whose number was given to `fail_at`
 /// fail; so does opening a name that it doesn't hold.
@@ -54,35 +41,6 @@ fn count_failure(failures: &mut [u64], all: &mut u64, place: usize)
 {
     count(&mut failures[place]);
     count(all);
-}
-
-// The place of the last file of this name.
-fn find(files: &[MemFile], name: &[u8]) -> Option<usize>
-    ensures place { result ≡ place_of files.now name.now }
-    ensures found { IfSome result (IsFound files.now name.now) }
-{
-    let mut place = None;
-    for (i, file) in files.iter().enumerate() {
-        if file.name.bytes() == name {
-            place = Some(i);
-        }
-    }
-    place
-}
-
-// Copies the bytes from `at` on to the front of the buffer, as far as both go, and says how many.
-fn copy_from(bytes: &[u8], at: usize, buf: &mut [u8]) -> usize
-    requires start { at ≤ length bytes.now }
-    requires room { 0 < length buf.old }
-    ensures bound { result ≤ length buf.new }
-    ensures inside { at + result ≤ length bytes.now }
-    ensures copied { drop at bytes.now ≡ take result buf.new ++ drop (at + result) bytes.now }
-    ensures end { result ≡ 0 → drop (at + result) bytes.now ≡ [] }
-{
-    let rest = &bytes[at..];
-    let taken = rest.len().min(buf.len());
-    buf[..taken].copy_from_slice(&rest[..taken]);
-    taken
 }
 
 impl MemShelf {

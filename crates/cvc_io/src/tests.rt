@@ -87,6 +87,33 @@ fn a_sink_takes_what_fits(rt: HostRuntime) -> Result<(), Fail> {
 }
 
 #[test]
+fn a_sure_shelf_opens_every_name(rt: HostRuntime) -> Result<(), Fail> {
+    let alloc = rt.alloc();
+    for (name, wanted) in [
+        (b"n".as_slice(), b"late".as_slice()),
+        (b"m", b"models"),
+        (b"p", b""),
+    ] {
+        let mut shelf = SureShelf::new(alloc);
+        shelf.add(b"n", b"early")?;
+        shelf.add(b"m", b"models")?;
+        shelf.add(b"n", b"late")?;
+        let (bytes, failed) = read_all(alloc, &mut shelf, name)?;
+        assert_eq!(rt; bytes.as_slice(), wanted);
+        assert!(rt; !failed);
+    }
+    Ok(())
+}
+
+#[test]
+fn a_count_sink_takes_pieces_whole(rt: HostRuntime) {
+    let mut sink = CountSink::new();
+    assert_eq!(rt; sink.write(b"CVC").ok(), Some(3));
+    assert_eq!(rt; sink.write(b" report").ok(), Some(7));
+    assert_eq!(rt; sink.count(), 10);
+}
+
+#[test]
 fn a_real_file_is_read(rt: HostRuntime) -> Result<(), Fail> {
     let alloc = rt.alloc();
     let mut path = env::temp_dir(&rt)?;

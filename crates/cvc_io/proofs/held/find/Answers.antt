@@ -3,8 +3,8 @@ use Rattle.std.proofs.lemmas.List.{take_all}
 use Rattle.cvc_io.specs.MemFiles.{place_of}
 use Rattle.std.specs.Str.{bytes_eq}
 use Rattle.cvc_io.proofs.Places.{found_more, if_found}
-use Rattle.cvc_io.proofs.mem_shelf.find.Goals as goal
-use Rattle.cvc_io.proofs.mem_shelf.find.Goals.{then-eq, else-eq}
+use Rattle.cvc_io.proofs.held.find.Goals as goal
+use Rattle.cvc_io.proofs.held.find.Goals.{then-eq, else-eq}
 
 pub loop-i-preserved : goal.loop-i-preserved
 loop-i-preserved c =
