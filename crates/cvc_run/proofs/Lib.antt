@@ -1,5 +1,13 @@
-pub mod Shapes
-pub mod Whole
+pub mod Tokens
+pub mod Mapped
+pub mod Verdicts
+pub mod NextLine
+pub mod Scanned
+pub mod Places
+pub mod Noted
+pub mod Netting
+pub mod Declaring
+pub mod Bound
 pub mod Printed
 pub mod Paths
 pub mod Ends

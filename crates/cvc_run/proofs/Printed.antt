@@ -1,18 +1,26 @@
 -- The lines of findings as the code prints them.
-use Rattle.std.proofs.Common.{◌≡◌, ℕ, ◌+◌, ◌<◌, List, [], ◌∷◌, ◌++◌, length, take, get_or, refl, sym, ap, ◌∙◌, append_assoc}
+use Rattle.std.proofs.Common.{◌≡◌, ℕ, ◌+◌, ◌<◌, List, [], ◌∷◌, ◌++◌, length, map, take, get_or, refl, sym, ap, ◌∙◌, append_assoc, arith}
 use Rattle.std.specs.Prelude.{Result, Ok, Err, OnOk}
 use Rattle.std.specs.List.{flat_map}
-use Rattle.std.proofs.lemmas.List.{append-nil, take_more}
+use Rattle.std.proofs.lemmas.List.{append-nil, take_more, get_or-map, length-map}
 use Rattle.std.proofs.lemmas.List.Concat.{flat_map-append}
 use Rattle.cvc_base.specs.declared.rule.Rule.TheVariants.{SupplyPath}
 use Rattle.cvc_base.specs.declared.finding.Finding.{Finding}
 use Rattle.cvc_law.specs.Network.{Network}
-use Rattle.cvc_run.specs.Report.{Labels, device_label, finding_line}
-use Rattle.cvc_run.specs.Names.{label_of, path_line}
+use Rattle.cvc_run.specs.Report.{Labels, device_label, no_label, finding_line}
+use Rattle.cvc_run.specs.Reading.{device_label as card_label}
+use Rattle.cvc_run.specs.Names.{card_view, cards_view, label_of, path_line}
+use Rattle.cvc_run.specs.declared.rows.ResistorCard.{ResistorCard}
 
 -- a supply path of a device that has the model `R`
 pub is_path_line : (c : Network) (l : Labels) (x : Finding) (path : List ℕ) → x.rule ≡ SupplyPath → device_label l x.device.0 ≡ label_of path → finding_line c l x ≡ path_line path x
 is_path_line c l x path rule label = rw (rule, label) refl
+
+-- the path of a device is its card's name
+pub path_of : (cards : List ResistorCard) (i : ℕ) (d : ResistorCard) → i < length cards → get_or (map card_label (cards_view cards)) i no_label ≡ label_of (get_or cards i d).name.now
+path_of cards i d lt =
+    let long : i < length (cards_view cards) = omega (arith, length-map cards card_view) in
+    get_or-map card_label (cards_view cards) i (card_view d) no_label long ∙ ap card_label (get_or-map card_view cards i d (card_view d) lt)
 
 push_next : {X : Type 0} (xs : List X) (i : ℕ) (d : X) → i < length xs → take (i + 1) xs ≡ take i xs ++ get_or xs i d ∷ []
 push_next xs i d lt = take_more xs i d lt

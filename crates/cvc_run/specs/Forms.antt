@@ -1,39 +1,40 @@
--- The forms of the three files that are accepted so far. A file has at most 200,000 bytes, each line ends in LF and has at most 200 bytes with it, and the tokens of a line are
--- separated by one blank. The netlist is one line: a resistor's name, which begins with R, two nets, and 1 to 9 digits. The models are the
--- one line `R resistor`. A power line is a net of the netlist that no earlier line names, `power`, and 1 to 3 digits with up to 3 more
--- behind a point, in volts. A name is one or more ASCII letters, digits and `_`.
-use Rattle.std.specs.Prelude.{ℕ, ◌+◌, ◌-◌, ◌*◌, nat_le, nat_lt, ◌==◌, List, [], ◌∷◌, length, Option, Some, None, Bool, false, not, ◌&&◌, ◌||◌, if◌then◌else◌, codes}
-use Rattle.std.specs.Str.{bytes_eq}
-use Rattle.std.specs.List.{slice_split, list_all}
+-- The forms of lines that are accepted so far. A line of the netlist is a resistor: a card of four tokens, its name, two nets and a number. Its name
+-- begins with R or r and is no earlier card's, no token is `=` or a lone `/` or begins with a sign that cards give a meaning to, and fewer than 500,000
+-- cards come before it. The models are the one line `R resistor`. A line of the power file is a name that no earlier line has, the word `power`
+-- without regard to case, and a voltage.
+use Rattle.std.specs.Prelude.{ℕ, nat_lt, ◌==◌, ℤ, List, [], ◌∷◌, length, map, Option, Some, None, Bool, true, false, not, ◌&&◌, ◌||◌, Result, Ok, Err, is_ok, if◌then◌else◌, codes}
+use Rattle.std.specs.List.{list_any}
+use Rattle.std.specs.Str.{bytes_eq, str_eq_ignore_ascii_case}
+use Rattle.cvc_base.specs.declared.fault.Fault.{Fault}
+use Rattle.cvc_base.specs.declared.fault.FileKind.TheVariants.{Netlist, Models, Power}
+use Rattle.cvc_base.specs.declared.line.Line.{Line}
+use Rattle.cvc_base.specs.declared.line.Token.{Token}
+use Rattle.cvc_units.specs.declared.fault.NumFault.{NumFault}
+use Rattle.cvc_units.specs.Number.{number_of, millivolts_of}
+use Rattle.cvc_run.specs.Judged.{built}
+use Rattle.cvc_run.specs.declared.rows.Supply.{Supply}
 
-abbrev pub lines_of : List ℕ → List (List ℕ)
-lines_of bytes = slice_split (λ b. b == 10) bytes
+-- ## Lines
 
-abbrev pub tokens_of : List ℕ → List (List ℕ)
-tokens_of text = slice_split (λ b. b == 32) text
+abbrev pub text_of : Token → List ℕ
+text_of token = token.text
 
--- with its LF
-abbrev pub is_short : List ℕ → Bool
-is_short text = nat_lt (length text) 200
+abbrev pub texts_of : Line → List (List ℕ)
+texts_of line = map text_of line.tokens
 
-abbrev pub is_empty : List ℕ → Bool
-is_empty text = length text == 0
+abbrev pub first_of : List (List ℕ) → List ℕ
+first_of [] = []
+first_of (text ∷ texts) = text
 
-abbrev pub is_digit : ℕ → Bool
-is_digit b = nat_le 48 b && nat_le b 57
+-- the first token of a line, which is the name that it gives
+abbrev pub name_of : Line → List ℕ
+name_of line = first_of (texts_of line)
 
-abbrev pub is_name_byte : ℕ → Bool
-is_name_byte b = is_digit b || (nat_le 65 b && nat_le b 90) || (nat_le 97 b && nat_le b 122) || b == 95
+-- one of these names is the line's
+abbrev pub is_among : List (List ℕ) → Line → Bool
+is_among names line = list_any (bytes_eq (name_of line)) names
 
-abbrev pub is_name : List ℕ → Bool
-is_name text = not (is_empty text) && list_all is_name_byte text
-
-abbrev pub begins_with_r : List ℕ → Bool
-begins_with_r [] = false
-begins_with_r (b ∷ bs) = b == 82
-
-abbrev pub is_value : List ℕ → Bool
-is_value text = nat_le 1 (length text) && nat_le (length text) 9 && list_all is_digit text
+-- ## The netlist
 
 -- a resistor and the names of its nets
 pub record Card : Type 0 where
@@ -41,90 +42,75 @@ pub record Card : Type 0 where
   pub first : List ℕ
   pub second : List ℕ
 
-abbrev pub is_card : List ℕ → List ℕ → List ℕ → List ℕ → Bool
-is_card name first second value = is_name name && begins_with_r name && is_name first && is_name second && is_value value
+-- one of `$`, `'`, `"`, `{` and `(`
+abbrev pub is_sign : ℕ → Bool
+is_sign b = (b == 36) || (b == 39) || (b == 34) || (b == 123) || (b == 40)
 
-abbrev pub card_of : List (List ℕ) → Option Card
-card_of (name ∷ first ∷ second ∷ value ∷ []) = if is_card name first second value then Some record { name = name; first = first; second = second } else None
-card_of _ = None
+abbrev pub begins_with : (ℕ → Bool) → List ℕ → Bool
+begins_with test [] = false
+begins_with test (b ∷ bs) = test b
 
-abbrev pub only_card : List (List ℕ) → Option Card
-only_card (text ∷ rest ∷ []) = if is_short text && is_empty rest then card_of (tokens_of text) else None
-only_card _ = None
+abbrev pub is_plain : List ℕ → Bool
+is_plain text = not (bytes_eq text (codes "=") || bytes_eq text (codes "/") || begins_with is_sign text)
 
--- no file has more than a thousand lines
-abbrev pub is_small : List ℕ → Bool
-is_small bytes = nat_le (length bytes) 200000
+-- `R` or `r`
+abbrev pub is_letter : ℕ → Bool
+is_letter b = (b == 82) || (b == 114)
 
-abbrev pub netlist_of : List ℕ → Option Card
-netlist_of bytes = if is_small bytes then only_card (lines_of bytes) else None
+abbrev pub is_resistor : List ℕ → List ℕ → List ℕ → List ℕ → Bool
+is_resistor name first second value = begins_with is_letter name && is_plain name && is_plain first && is_plain second && is_plain value && is_ok (number_of value)
 
-abbrev pub is_models : List ℕ → Bool
-is_models bytes = is_small bytes && bytes_eq bytes (codes "R resistor\n")
+-- the resistor of a line's tokens
+unfoldable pub card_of : Bool → List (List ℕ) → Option Card
+card_of false (name ∷ first ∷ second ∷ value ∷ []) = if is_resistor name first second value then Some record { name = name; first = first; second = second } else None
+card_of _ _ = None
 
-abbrev pub digit : ℕ → ℕ
-digit b = b - 48
+-- the most cards of a netlist
+abbrev pub card_limit : ℕ
+card_limit = 500000
 
--- whole volts, in millivolts
-abbrev pub whole_of : List ℕ → Option ℕ
-whole_of (a ∷ []) = if is_digit a then Some (1000 * digit a) else None
-whole_of (a ∷ b ∷ []) = if is_digit a && is_digit b then Some (10000 * digit a + 1000 * digit b) else None
-whole_of (a ∷ b ∷ c ∷ []) = if is_digit a && is_digit b && is_digit c then Some (100000 * digit a + 10000 * digit b + 1000 * digit c) else None
-whole_of _ = None
+abbrev pub may_follow : ℕ → List (List ℕ) → Line → Bool
+may_follow count names line = nat_lt count card_limit && not (is_among names line)
 
--- the digits behind the point, in millivolts
-abbrev pub part_of : List ℕ → Option ℕ
-part_of (a ∷ []) = if is_digit a then Some (100 * digit a) else None
-part_of (a ∷ b ∷ []) = if is_digit a && is_digit b then Some (100 * digit a + 10 * digit b) else None
-part_of (a ∷ b ∷ c ∷ []) = if is_digit a && is_digit b && is_digit c then Some (100 * digit a + 10 * digit b + digit c) else None
-part_of _ = None
+-- the resistor of a line that comes after so many cards with these names
+abbrev pub card_after : ℕ → List (List ℕ) → Line → Option Card
+card_after count names line = if may_follow count names line then card_of line.directive (texts_of line) else None
 
-abbrev pub sum_of : Option ℕ → Option ℕ → Option ℕ
-sum_of (Some x) (Some y) = Some (x + y)
-sum_of _ _ = None
+abbrev pub card_verdict : List Line → Line → Result Card Fault
+card_verdict earlier line = built Netlist line (card_after (length earlier) (map name_of earlier) line)
 
-abbrev pub volts_of : List (List ℕ) → Option ℕ
-volts_of (whole ∷ []) = whole_of whole
-volts_of (whole ∷ part ∷ []) = sum_of (whole_of whole) (part_of part)
-volts_of _ = None
+-- ## The models
 
--- a declared net and its voltage in millivolts
-pub record Supply : Type 0 where
-  pub name : List ℕ
-  pub millivolts : ℕ
+abbrev pub is_model : List (List ℕ) → Bool
+is_model (name ∷ kind ∷ []) = bytes_eq name (codes "R") && bytes_eq kind (codes "resistor")
+is_model _ = false
 
-abbrev pub supply_with : List ℕ → Option ℕ → Option Supply
-supply_with name None = None
-supply_with name (Some v) = Some record { name = name; millivolts = v }
+-- no line comes before it
+abbrev pub is_only_model : List Line → Line → Bool
+is_only_model [] line = is_model (texts_of line)
+is_only_model _ line = false
 
-abbrev pub supply_of : List (List ℕ) → Option Supply
-supply_of (name ∷ word ∷ volts ∷ []) = if bytes_eq word (codes "power") then supply_with name (volts_of (slice_split (λ b. b == 46) volts)) else None
-supply_of _ = None
+abbrev pub model_verdict : List Line → Line → Result (Unit {0}) Fault
+model_verdict earlier line = built Models line (if is_only_model earlier line then Some tt else None)
 
-abbrev pub is_net : Card → List ℕ → Bool
-is_net card name = bytes_eq name card.first || bytes_eq name card.second
+-- ## The power file
 
-abbrev pub known_supply : Card → Option Supply → Option Supply
-known_supply card None = None
-known_supply card (Some s) = if is_net card s.name then Some s else None
+abbrev pub voltage_in : Result ℤ NumFault → Option ℤ
+voltage_in (Ok v) = Some v
+voltage_in (Err e) = None
 
-abbrev pub row_of : Card → List ℕ → Option Supply
-row_of card text = if is_short text then known_supply card (supply_of (tokens_of text)) else None
+abbrev pub supply_with : List ℕ → ℕ → Option ℤ → Option Supply
+supply_with name line None = None
+supply_with name line (Some v) = Some record { name = name; millivolts = v; line = line }
 
-abbrev pub one_row : Option Supply → Option (List Supply)
-one_row None = None
-one_row (Some s) = Some (s ∷ [])
+-- the declared net of a line's tokens, its voltage in millivolts, and the line
+unfoldable pub supply_of : ℕ → List (List ℕ) → Option Supply
+supply_of line (name ∷ word ∷ volts ∷ []) = if str_eq_ignore_ascii_case word (codes "power") then supply_with name line (voltage_in (millivolts_of volts)) else None
+supply_of line _ = None
 
-abbrev pub two_rows : Option Supply → Option Supply → Option (List Supply)
-two_rows (Some s) (Some t) = if bytes_eq s.name t.name then None else Some (s ∷ t ∷ [])
-two_rows _ _ = None
+-- the supply of a line that comes after lines with these names
+abbrev pub supply_after : List (List ℕ) → Line → Option Supply
+supply_after names line = if is_among names line then None else supply_of line.first (texts_of line)
 
--- a resistor has at most two nets, so there are at most two lines
-abbrev pub rows_of : Card → List (List ℕ) → Option (List Supply)
-rows_of card (rest ∷ []) = if is_empty rest then Some [] else None
-rows_of card (text ∷ rest ∷ []) = if is_empty rest then one_row (row_of card text) else None
-rows_of card (text ∷ more ∷ rest ∷ []) = if is_empty rest then two_rows (row_of card text) (row_of card more) else None
-rows_of card _ = None
-
-abbrev pub power_of : Card → List ℕ → Option (List Supply)
-power_of card bytes = if is_small bytes then rows_of card (lines_of bytes) else None
+abbrev pub supply_verdict : List Line → Line → Result Supply Fault
+supply_verdict earlier line = built Power line (supply_after (map name_of earlier) line)

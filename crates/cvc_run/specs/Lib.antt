@@ -1,12 +1,15 @@
 pub mod Lines
 pub mod Report
 pub mod Refusals
+pub mod Judged
 pub mod Forms
 pub mod Reading
+pub mod Scans
 pub mod Outcome
 pub mod Codes
 pub mod Names
-pub mod ReadFiles
 pub mod Views
 pub mod Resistors
 pub mod Endings
+pub mod Stops
+pub mod Apart

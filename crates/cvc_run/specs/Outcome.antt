@@ -1,6 +1,6 @@
 -- The outcome of a run: a status and the bytes that it writes, by the words and the files. And what a run may answer over a shelf and a sink
 -- that can fail: the outcome, or a fault of the outside that came in this run, or want of memory.
-use Rattle.std.specs.Prelude.{◌≡◌, ℕ, List, [], ◌∷◌, take, Option, Some, None, Bool, true, false, ◌&&◌, ◌==◌, length, slice_index_or, if◌then◌else◌, codes, ◌⊎◌, IsSome, IsTrue, IfSome, MatchOption}
+use Rattle.std.specs.Prelude.{◌≡◌, ℕ, List, [], ◌∷◌, take, Option, Some, None, Bool, true, false, ◌&&◌, ◌==◌, length, slice_index_or, if◌then◌else◌, codes, ◌⊎◌, IsOk, IfSome, MatchOption}
 use Rattle.std.specs.Str.{bytes_eq}
 use Rattle.std.specs.Io.KnownBytes.{append_known}
 use Rattle.cvc_io.specs.Causes.{Rose}
@@ -11,8 +11,7 @@ use Rattle.cvc_law.specs.Rules.{findings_of}
 use Rattle.cvc_run.specs.Report.{report}
 use Rattle.cvc_run.specs.Endings.{status_of}
 use Rattle.cvc_run.specs.Refusals.{refusal, word_refusal}
-use Rattle.cvc_run.specs.Forms.{netlist_of, is_models}
-use Rattle.cvc_run.specs.Reading.{Design, Reading, Refused, Accepted, reading}
+use Rattle.cvc_run.specs.Reading.{Design, Reading, Refused, Accepted, netlist_of, models_of, reading}
 use Rattle.cvc_run.specs.declared.job.Job.{Job}
 use Rattle.cvc_run.specs.declared.status.Status.{Status}
 use Rattle.cvc_run.specs.declared.status.Status.TheVariants.{Clean, Errors, Words, ReadFault, WriteFault, NoMemory}
@@ -38,10 +37,10 @@ job_of words = if is_check words then Some record { netlist = slice_index_or wor
 
 -- the netlist is accepted, as far as the files are told; and the models
 abbrev pub HasNetlist : Option Files → Job → Type 0
-HasNetlist files job = IfSome files (λ fs. IsSome (netlist_of (content fs job.netlist)))
+HasNetlist files job = IfSome files (λ fs. IsOk (netlist_of (content fs job.netlist)))
 
 abbrev pub HasModels : Option Files → Job → Type 0
-HasModels files job = IfSome files (λ fs. IsTrue (is_models (content fs job.models)))
+HasModels files job = IfSome files (λ fs. IsOk (models_of (content fs job.models)))
 
 -- a name whose file the run may open: one before which no file is refused
 abbrev pub IsDue : Option Files → Job → List ℕ → Type 0

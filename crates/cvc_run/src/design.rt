@@ -1,12 +1,20 @@
 //! The circuit of the three files.
-ghost use Rattle.std.specs.Prelude.{◌≡◌, ◌∷◌, [], pos, map, IfOk};
-ghost use Rattle.cvc_run.specs.Reading.{no_volts, net_names, second_net, declared_at, resistor, design_of};
-ghost use Rattle.cvc_run.specs.Views.{card_view, rows_view, design_view, IsNamed};
+ghost use Rattle.std.specs.Prelude.{◌≡◌, ◌<◌, ◌≤◌, ◌∷◌, [], pos, map, length, Some, None, IfOk, OnOk, slice_set, slice_index_or};
+ghost use Rattle.std.specs.Option.{option_or};
+ghost use Rattle.cvc_base.specs.declared.cause.Cause.TheVariants.{UnknownNet};
+ghost use Rattle.cvc_base.specs.declared.fault.FileKind.TheVariants.{Power};
+ghost use Rattle.cvc_lex.specs.Lines.{fault_on};
+ghost use Rattle.cvc_run.specs.Apart.{AreApart};
+ghost use Rattle.cvc_run.specs.Reading.{bound, fixed_by, net_names, no_volts, resistor};
+ghost use Rattle.cvc_run.specs.Names.{cards_view};
+ghost use Rattle.cvc_run.specs.Views.{Binds, Declares, IsNamed};
 
 use crate::labels::Labels;
-use crate::rows::{PowerRows, ResistorCard, SupplyRow};
+use crate::nets::Nets;
+use crate::rows::{ResistorCard, Supply};
+use crate::stop::Stop;
 use arrayvec::ArrayVec;
-use cvc_base::{Kind, Mv, NetId, NoMemory, Volts};
+use cvc_base::{Cause, Fault, FileKind, Kind, Mv, NetId, NoMemory, Place, Volts};
 use cvc_law::{Circuit, Device, Fixed};
 use std::alloc::Global;
 
@@ -42,51 +50,12 @@ fn plain_volts() -> Volts
     }
 }
 
-fn fixed_by(row: &SupplyRow) -> Fixed
-    ensures { result ≡ record { low = pos row.now.millivolts; high = pos row.now.millivolts } }
+fn resistor(first: NetId, second: NetId) -> Device
+    ensures { result ≡ record { kind = Kind.Resistor; pins = record { items = first ∷ second ∷ [] }; volts = no_volts } }
 {
-    match Mv::new(i64::from(row.millivolts)) {
-        Some(v) => Fixed { low: v, high: v },
-        None => unreachable!(),
-    }
-}
-
-// What the rows declare a net at.
-fn declared(rows: &PowerRows, name: &[u8]) -> Option<Fixed>
-    ensures { result ≡ declared_at (rows_view rows.now) name.now }
-{
-    if let Some(row) = &rows.first {
-        if row.name == name {
-            return Some(fixed_by(row));
-        }
-    }
-    if let Some(row) = &rows.second {
-        if row.name == name {
-            return Some(fixed_by(row));
-        }
-    }
-    None
-}
-
-// The nets in the order of first mention.
-fn names_of<'a>(alloc: Global, card: &ResistorCard<'a>) -> Result<Vec<&'a [u8]>, NoMemory>
-    ensures { IfOk result (λ names. map (λ name. name.now) names.items ≡ net_names (card_view card.now)) }
-{
-    let mut names = Vec::new(alloc);
-    names.push(card.first)?;
-    if card.first != card.second {
-        names.push(card.second)?;
-    }
-    Ok(names)
-}
-
-fn resistor_of(card: &ResistorCard) -> Device
-    ensures { result ≡ resistor (card_view card.now) }
-{
-    let second = if card.first == card.second { 0 } else { 1 };
     let mut pins = ArrayVec::new();
-    pins.push(NetId(0));
-    pins.push(NetId(second));
+    pins.push(first);
+    pins.push(second);
     Device {
         kind: Kind::Resistor,
         pins,
@@ -94,38 +63,83 @@ fn resistor_of(card: &ResistorCard) -> Device
     }
 }
 
-fn fixed_of(
+// The devices of the cards, whose nets are noted in the order of first mention.
+fn devices<'a>(
     alloc: Global,
-    rows: &PowerRows,
-    names: &[&[u8]],
-) -> Result<Vec<Option<Fixed>>, NoMemory>
-    ensures { IfOk result (λ fixed. fixed.items ≡ map (declared_at (rows_view rows.now)) (map (λ name. name.now) names.now)) }
+    cards: &[ResistorCard<'a>],
+    nets: &mut Nets<'a>,
+) -> Result<Vec<Device>, NoMemory>
+    requires few { length cards.now ≤ 500000 }
+    requires none { nets.old ≡ [] }
+    ensures nets { OnOk result (nets.new ≡ net_names (cards_view cards.now)) }
+    ensures few { OnOk result (length nets.new ≤ 1000000) }
+    ensures apart { OnOk result (AreApart nets.new) }
+    ensures devices { IfOk result (λ devices. devices.items ≡ map (resistor (net_names (cards_view cards.now))) (cards_view cards.now)) }
 {
-    let mut fixed = Vec::new(alloc);
-    for name in names {
-        fixed.push(declared(rows, name))?;
+    let mut devices = Vec::with_capacity(alloc, cards.len())?;
+    for card in cards {
+        let first = nets.note(card.first)?;
+        let second = nets.note(card.second)?;
+        devices.push(resistor(first, second))?;
+    }
+    Ok(devices)
+}
+
+// A row that names no net.
+fn unknown_net(row: &Supply) -> Fault
+    ensures { result ≡ fault_on Power row.now.line UnknownNet }
+{
+    Fault {
+        place: Place {
+            file: FileKind::Power,
+            line: row.line,
+        },
+        cause: Cause::UnknownNet,
+    }
+}
+
+// Declares the net at a place by a row, unless an earlier one did.
+fn declare(fixed: &mut [Option<Fixed>], place: usize, row: &Supply)
+    requires { place < length fixed.old }
+    ensures { fixed.new ≡ slice_set fixed.old place (option_or (slice_index_or fixed.old place None) (Some (fixed_by row.now))) }
+{
+    fixed[place] = fixed[place].or(Some(Fixed {
+        low: row.millivolts,
+        high: row.millivolts,
+    }));
+}
+
+// What each net is declared at.
+fn declared(alloc: Global, nets: &Nets, rows: &[Supply]) -> Result<Vec<Option<Fixed>>, Stop>
+    requires { AreApart nets.now }
+    ensures { Declares result nets.now rows.now }
+{
+    let mut fixed = vec![in alloc; None; nets.len()]?;
+    for row in rows {
+        let Some(place) = nets.place_of(row.name.bytes()) else {
+            return Err(Stop::At(unknown_net(row)));
+        };
+        declare(&mut fixed, place, row);
     }
     Ok(fixed)
 }
 
-/// The circuit of a card and the rows, with its names.
+/// The circuit of the cards and the rows, with its names, or the fault of the first row that names no net.
 pub(crate) fn design<'a>(
     alloc: Global,
-    card: ResistorCard<'a>,
-    rows: &PowerRows,
-) -> Result<NamedCircuit<'a>, NoMemory>
-    ensures design { IfOk result (λ d. design_view d ≡ design_of (card_view card.entry) (rows_view rows.now)) }
+    cards: &'a [ResistorCard<'a>],
+    rows: &[Supply],
+) -> Result<NamedCircuit<'a>, Stop>
+    requires { length cards.now ≤ 500000 }
+    ensures design { Binds result (bound (cards_view cards.now) rows.now) }
     ensures named { IfOk result IsNamed }
 {
-    let names = names_of(alloc, &card)?;
-    let fixed = fixed_of(alloc, rows, names.as_slice())?;
-    let mut devices = Vec::new(alloc);
-    devices.push(resistor_of(&card))?;
+    let mut nets = Nets::new(alloc);
+    let devices = devices(alloc, cards, &mut nets)?;
+    let fixed = declared(alloc, &nets, rows)?;
     let circuit = Circuit::new(alloc, fixed, devices)?;
-    let mut paths = Vec::new(alloc);
-    paths.push(card.name)?;
     Ok(NamedCircuit {
         circuit,
-        labels: Labels { nets: names, paths },
+        labels: Labels { nets, cards },
     })
 }

@@ -1,8 +1,11 @@
 //! The names that a report prints.
 
-/// The names of the nets and the paths of the devices, which are resistors of the main level.
+use crate::nets::Nets;
+use crate::rows::ResistorCard;
+
+/// The names of the nets, and the cards of the devices, which are resistors of the main level.
 #[derive(Drop)]
 pub(crate) struct Labels<'a> {
-    pub(crate) nets: Vec<&'a [u8]>,
-    pub(crate) paths: Vec<&'a [u8]>,
+    pub(crate) nets: Nets<'a>,
+    pub(crate) cards: &'a [ResistorCard<'a>],
 }

@@ -2,15 +2,18 @@
 #![tactic(auto)]
 
 mod design;
-mod files;
 mod findings;
 mod forms;
 mod job;
+mod judged;
 mod labels;
+mod nets;
 mod outcome;
 mod rows;
 mod run;
+mod scan;
 mod status;
+mod stop;
 mod text;
 mod words;
 

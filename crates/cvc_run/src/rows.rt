@@ -1,7 +1,8 @@
-//! What the three files say, borrowed from their bytes.
-ghost use Rattle.std.specs.Prelude.{◌≤◌};
+//! What lines say.
 
-// A resistor's card: its name and the names of its nets.
+use cvc_base::{Mv, Text};
+
+/// A resistor's card, borrowed from its line: its name and the names of its nets.
 #[derive(Clone, Copy)]
 pub(crate) struct ResistorCard<'a> {
     pub(crate) name: &'a [u8],
@@ -9,17 +10,10 @@ pub(crate) struct ResistorCard<'a> {
     pub(crate) second: &'a [u8],
 }
 
-// A power row: a net and its voltage in millivolts.
-#[derive(Clone, Copy)]
-pub(crate) struct SupplyRow<'a> {
-    pub(crate) name: &'a [u8],
-    pub(crate) millivolts: u32,
-    ghost possible: { millivolts ≤ 1000000 },
-}
-
-// The rows of a power file: none, the first, or both.
-#[derive(Clone, Copy)]
-pub(crate) struct PowerRows<'a> {
-    pub(crate) first: Option<SupplyRow<'a>>,
-    pub(crate) second: Option<SupplyRow<'a>>,
+/// A row of a power file: a net, its voltage, and the row's line.
+#[derive(Drop)]
+pub(crate) struct Supply {
+    pub(crate) name: Text,
+    pub(crate) millivolts: Mv,
+    pub(crate) line: u32,
 }

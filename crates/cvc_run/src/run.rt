@@ -4,8 +4,8 @@ ghost use Rattle.std.specs.Io.KnownBytes.{append_known};
 ghost use Rattle.cvc_io.specs.Causes.{Rose};
 ghost use Rattle.cvc_run.specs.Outcome.{Answers, AnswersJob, AcceptedIsAnswered, Answered, EndsWords, WritesAll, outside};
 
-use crate::files::Unread;
 use crate::outcome::outcome;
+use crate::scan::Unread;
 use crate::text::{End, word_refusal_text};
 use crate::words::job_of;
 use crate::{Job, Status};

@@ -182,10 +182,10 @@ fn put_net(
 ) -> Result<(), NoMemory>
     requires net { n < nets circuit.now }
     requires family { length family.now ≡ nets circuit.now }
-    requires labels { length labels.now.nets.items ≡ nets circuit.now }
+    requires labels { length labels.now.nets ≡ nets circuit.now }
     ensures { OnOk result (out.new.items ≡ out.old.items ++ net_line (net_name (labels_view labels.now) n) (fixed_at circuit.now n) (interval_at family.now n)) }
 {
-    let name = labels.nets[n as usize];
+    let name = labels.nets.name(NetId(n));
     match circuit.fixed(NetId(n)) {
         Some(fixed) => put_fixed_net(out, name, &fixed),
         None => put_settled_net(out, name, &family.interval(NetId(n))),
@@ -199,7 +199,7 @@ fn put_nets(
     family: &Family,
 ) -> Result<(), NoMemory>
     requires family { length family.now ≡ nets circuit.now }
-    requires labels { length labels.now.nets.items ≡ nets circuit.now }
+    requires labels { length labels.now.nets ≡ nets circuit.now }
     ensures { OnOk result (out.new.items ≡ out.old.items ++ net_lines circuit.now (labels_view labels.now) family.now true) }
 {
     for n in 0..circuit.nets() {
@@ -216,7 +216,7 @@ fn put_asked_nets(
     with_nets: bool,
 ) -> Result<(), NoMemory>
     requires family { length family.now ≡ nets circuit.now }
-    requires labels { length labels.now.nets.items ≡ nets circuit.now }
+    requires labels { length labels.now.nets ≡ nets circuit.now }
     ensures { OnOk result (out.new.items ≡ out.old.items ++ net_lines circuit.now (labels_view labels.now) family.now with_nets) }
 {
     if with_nets {
@@ -227,10 +227,10 @@ fn put_asked_nets(
 
 // The path of a device, whose model is `R`.
 fn path_at<'a>(labels: &Labels<'a>, d: DevId) -> &'a [u8]
-    requires { d.0 < length labels.now.paths.items }
+    requires { d.0 < length labels.now.cards.now }
     ensures { device_label (labels_view labels.now) d.0 ≡ label_of result.now }
 {
-    labels.paths[d.0 as usize]
+    labels.cards[d.0 as usize].name
 }
 
 fn put_path_words(
@@ -275,7 +275,7 @@ fn put_ends(out: &mut Vec<u8>, path: &[u8], finding: &Finding) -> Result<(), NoM
 // The line of a supply path.
 fn put_path(out: &mut Vec<u8>, labels: &Labels, finding: &Finding) -> Result<(), NoMemory>
     requires rule { finding.now.rule ≡ SupplyPath }
-    requires device { finding.now.device.0 < length labels.now.paths.items }
+    requires device { finding.now.device.0 < length labels.now.cards.now }
     ensures { (c : Network) → OnOk result (out.new.items ≡ out.old.items ++ finding_line c (labels_view labels.now) finding.now) }
 {
     put_ends(out, path_at(labels, finding.device), finding)
@@ -287,7 +287,7 @@ fn put_findings(
     labels: &Labels,
     found: &[Finding],
 ) -> Result<(), NoMemory>
-    requires { All (IsPathBelow (length labels.now.paths.items)) found.now }
+    requires { All (IsPathBelow (length labels.now.cards.now)) found.now }
     ensures { OnOk result (out.new.items ≡ out.old.items ++ flat_map (finding_line circuit.now (labels_view labels.now)) found.now) }
 {
     for finding in found {
