@@ -1,6 +1,6 @@
 -- The circuit of cards and rows meets what a circuit must, and is the one of the design.
-use Rattle.std.proofs.Common.{◌≡◌, ℕ, zero, suc, ◌+◌, ◌<◌, ◌≤◌, true, List, [], ◌∷◌, map, length, Option, Some, None, if◌then◌else◌, Bool, false, refl, sym, ap, subst, ◌∙◌, arith}
-use Rattle.std.specs.Prelude.{ℤ, pos, ◌≤ℤ◌, slice_get, slice_index_or, IfOk, Result, Ok, Err}
+use Rattle.std.proofs.Common.{◌≡◌, ℕ, zero, suc, ◌<◌, ◌≤◌, true, List, [], ◌∷◌, map, length, Option, Some, None, if◌then◌else◌, Bool, false, refl, sym, ap, subst, ◌∙◌, arith}
+use Rattle.std.specs.Prelude.{◌≤ℤ◌, slice_get, slice_index_or, Err}
 use Rattle.std.specs.List.{list_any}
 use Rattle.std.specs.Str.{bytes_eq}
 use Rattle.std.proofs.lemmas.Int.{ints}
@@ -9,12 +9,12 @@ use Rattle.cvc_base.specs.declared.cause.Cause.TheVariants.{UnknownNet}
 use Rattle.cvc_base.specs.declared.device.Kind.TheVariants.{Resistor}
 use Rattle.cvc_base.specs.declared.fault.Fault.{Fault}
 use Rattle.cvc_base.specs.declared.fault.FileKind.TheVariants.{Power}
-use Rattle.cvc_law.specs.Network.{Network, IsDevice, IsCircuit, pin, pins_of}
+use Rattle.cvc_law.specs.Network.{Network, IsDevice, IsCircuit, pin}
 use Rattle.cvc_law.specs.declared.device.Device.{Device}
 use Rattle.cvc_law.specs.declared.interval.Fixed.{Fixed}
 use Rattle.cvc_lex.specs.Lines.{fault_on}
 use Rattle.cvc_run.specs.Forms.{Card}
-use Rattle.cvc_run.specs.Reading.{Design, Reading, Refused, Accepted, net_names, net_at, resistor, device_label, declared_at, fixed_by, unknown_row, unless_unknown, bound, design_of}
+use Rattle.cvc_run.specs.Reading.{Refused, Accepted, net_names, resistor, device_label, declared_at, fixed_by, unknown_row, unless_unknown, bound, design_of}
 use Rattle.cvc_run.specs.Resistors.{AreResistors}
 use Rattle.cvc_run.specs.declared.rows.Supply.{Supply}
 use Rattle.cvc_run.specs.declared.status.Status.TheVariants.{Binding}

@@ -1,6 +1,6 @@
 -- What nets are declared at, row by row.
-use Rattle.std.proofs.Common.{◌≡◌, ℕ, zero, suc, ◌+◌, ◌<◌, ◌≤◌, Bool, true, false, not, cond, ◌||◌, List, [], ◌∷◌, ◌++◌, map, length, take, drop, get_or, replicate, Option, Some, None, refl, sym, ap, subst, ◌∙◌, arith, true≢false}
-use Rattle.std.specs.Prelude.{find, slice_set, slice_index_or, if◌then◌else◌}
+use Rattle.std.proofs.Common.{◌≡◌, ℕ, suc, ◌+◌, ◌<◌, Bool, true, false, not, cond, ◌||◌, List, [], ◌∷◌, ◌++◌, map, length, take, drop, get_or, replicate, Option, Some, None, refl, sym, ap, ◌∙◌, arith, true≢false}
+use Rattle.std.specs.Prelude.{slice_set, slice_index_or, if◌then◌else◌}
 use Rattle.std.specs.List.{list_any, position, position_or_len}
 use Rattle.std.specs.Option.{option_or}
 use Rattle.std.specs.Str.{bytes_eq}
@@ -10,7 +10,7 @@ use Rattle.cvc_law.specs.declared.interval.Fixed.{Fixed}
 use Rattle.cvc_run.specs.Apart.{AreApart}
 use Rattle.cvc_run.specs.Reading.{declared_at, fixed_by, unknown_row}
 use Rattle.cvc_run.specs.declared.rows.Supply.{Supply}
-use Rattle.cvc_run.proofs.Places.{by_test, place_at, none_first, none_others, other_bytes, found_there, found_place, found_nowhere}
+use Rattle.cvc_run.proofs.Places.{by_test, place_at, none_first, none_others, found_there, found_place, found_nowhere}
 
 pub none_declared : (names : List (List ℕ)) → replicate (length names) None ≡ map (declared_at []) names
 none_declared [] = refl
@@ -57,13 +57,13 @@ module _ (rows : List Supply) (s : Supply) where
   at_place (x ∷ xs) apart there =
       by_test (set_at (x ∷ xs) (position_or_len p (x ∷ xs)) ≡ map after (x ∷ xs)) (p x)
       (λ t.
-        let same : s.name ≡ x = (bytes_eq-Decides s.name x).0 t in
-        let none : list_any p xs ≡ false = ap (λ n. list_any (bytes_eq n) xs) same ∙ apart.0 in
-        ap (λ k. set_at (x ∷ xs) k) (place_at p x xs true t) ∙ (λ i. sym (here x t) i ∷ nowhere xs none i))
+      let same : s.name ≡ x = (bytes_eq-Decides s.name x).0 t in
+      let none : list_any p xs ≡ false = ap (λ n. list_any (bytes_eq n) xs) same ∙ apart.0 in
+      ap (λ k. set_at (x ∷ xs) k) (place_at p x xs true t) ∙ (λ i. sym (here x t) i ∷ nowhere xs none i))
       (λ t.
-        let further : position_or_len p (x ∷ xs) ≡ suc (position_or_len p xs) = place_at p x xs false t ∙ (omega arith) in
-        let there_too : list_any p xs ≡ true = sym (ap (λ b. b || list_any p xs) t) ∙ there in
-        ap (λ k. set_at (x ∷ xs) k) further ∙ (λ i. sym (elsewhere x t) i ∷ at_place xs apart.1 there_too i))
+      let further : position_or_len p (x ∷ xs) ≡ suc (position_or_len p xs) = place_at p x xs false t ∙ (omega arith) in
+      let there_too : list_any p xs ≡ true = sym (ap (λ b. b || list_any p xs) t) ∙ there in
+      ap (λ k. set_at (x ∷ xs) k) further ∙ (λ i. sym (elsewhere x t) i ∷ at_place xs apart.1 there_too i))
 
   module _ (names : List (List ℕ)) (apart : AreApart names) (place : ℕ) (found : position (bytes_eq s.name) names ≡ Some place) where
     pub declared_more : (old new : List (Option Fixed)) → old ≡ map (declared_at rows) names → new ≡ slice_set old place (option_or (slice_index_or old place None) (Some (fixed_by s))) → new ≡ map after names

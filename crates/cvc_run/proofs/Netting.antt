@@ -1,8 +1,8 @@
 -- The nets of cards, noted one after another.
-use Rattle.std.proofs.Common.{◌≡◌, ℕ, suc, ◌+◌, ◌*◌, ◌<◌, ◌≤◌, Bool, true, false, List, [], ◌∷◌, ◌++◌, map, length, drop, take, get_or, Option, Some, None, refl, sym, ap, subst, ◌∙◌, arith}
+use Rattle.std.proofs.Common.{◌≡◌, ℕ, ◌+◌, ◌*◌, ◌<◌, ◌≤◌, true, List, [], ◌∷◌, ◌++◌, map, length, drop, take, get_or, refl, sym, ap, subst, ◌∙◌, arith}
 use Rattle.std.specs.List.{list_any}
 use Rattle.std.specs.Str.{bytes_eq}
-use Rattle.std.proofs.lemmas.List.{drop-map, drop_more, drop_all, length-map, map_more, map_push, take-map, take_all}
+use Rattle.std.proofs.lemmas.List.{drop-map, drop_more, drop_all, length-map, map_more, map_push, take-map}
 use Rattle.cvc_base.specs.declared.device.Kind.TheVariants.{Resistor}
 use Rattle.cvc_base.specs.declared.ids.NetId.{NetId}
 use Rattle.cvc_law.specs.declared.device.Device.{Device}
@@ -11,7 +11,7 @@ use Rattle.cvc_run.specs.Forms.{Card}
 use Rattle.cvc_run.specs.Names.{card_view, cards_view}
 use Rattle.cvc_run.specs.Reading.{with_name, named_nets, net_names, net_at, resistor, no_volts}
 use Rattle.cvc_run.specs.declared.rows.ResistorCard.{ResistorCard}
-use Rattle.cvc_run.proofs.Places.{with_name-there, with_name-place, with_name-keeps, with_name-keeps_place, length-with_name, apart-with_name}
+use Rattle.cvc_run.proofs.Places.{with_name-there, with_name-keeps, with_name-keeps_place, length-with_name, apart-with_name}
 
 abbrev with_card : List (List ℕ) → Card → List (List ℕ)
 with_card names card = with_name (with_name names card.first) card.second

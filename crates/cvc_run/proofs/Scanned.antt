@@ -1,6 +1,6 @@
 -- What a lexer has that was fed with a file, piece by piece.
-use Rattle.std.proofs.Common.{◌≡◌, ℕ, ◌+◌, ◌<◌, ◌≤◌, Bool, true, false, List, [], ◌∷◌, ◌++◌, length, take, Option, Some, None, Result, Ok, Err, refl, sym, ap, subst, ◌∙◌, append-nil, append_assoc, arith}
-use Rattle.std.specs.Prelude.{IfSome, IfOk, nat_lt, if◌then◌else◌}
+use Rattle.std.proofs.Common.{◌≡◌, ℕ, ◌+◌, ◌≤◌, Bool, true, false, List, [], ◌++◌, length, take, Option, Some, None, Result, Ok, Err, refl, sym, ap, subst, ◌∙◌, append-nil, append_assoc, arith}
+use Rattle.std.specs.Prelude.{IfSome, nat_lt, if◌then◌else◌}
 use Rattle.std.specs.Io.KnownBytes.{prepend_known}
 use Rattle.std.proofs.lemmas.Bool.Decides.{nat_tests}
 use Rattle.std.proofs.lemmas.List.{length-append, length-take-le}
@@ -15,7 +15,7 @@ use Rattle.cvc_io.specs.Files.{Standing, Takes, IsAtEnd, with_front}
 use Rattle.cvc_lex.specs.Bytes.{file_limit}
 use Rattle.cvc_lex.specs.Physical.{ended}
 use Rattle.cvc_lex.specs.Lexing.{Lexing, StandsFor, HasRead, Refuses, IfAt, IsFirstFaultOf, refusal_in, closed_in}
-use Rattle.cvc_lex.specs.Lines.{lexical, closed_at_end, closed_so_far, sure_fault, first_fault, fault_on, or_else}
+use Rattle.cvc_lex.specs.Lines.{lexical, sure_fault, first_fault, fault_on, or_else}
 use Rattle.cvc_run.specs.Scans.{IsScanned, IsFaultOf, ScansRest}
 
 -- the lexer stands for what was taken from the open file

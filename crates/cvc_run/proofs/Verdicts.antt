@@ -1,10 +1,9 @@
 -- Verdicts of lines in a row.
-use Rattle.std.proofs.Common.{◌≡◌, ℕ, ◌+◌, ◌<◌, ◌≤◌, List, [], ◌∷◌, ◌++◌, length, take, drop, get_or, Result, Ok, Err, Option, Some, None, refl, sym, ap, subst, ◌∙◌, append_assoc, append-nil}
+use Rattle.std.proofs.Common.{◌≡◌, ℕ, ◌+◌, ◌<◌, ◌≤◌, List, [], ◌∷◌, ◌++◌, length, take, drop, get_or, Result, Ok, Err, refl, sym, ap, subst, ◌∙◌, append_assoc, append-nil}
 use Rattle.std.proofs.lemmas.List.{take_more, take_all, take-append-drop, drop_more}
 use Rattle.cvc_base.specs.declared.fault.Fault.{Fault}
-use Rattle.cvc_base.specs.declared.fault.FileKind.{FileKind}
 use Rattle.cvc_base.specs.declared.line.Line.{Line}
-use Rattle.cvc_run.specs.Judged.{verdicts, in_front, all_or_fault, said, built, not_built_at, then_lexical}
+use Rattle.cvc_run.specs.Judged.{verdicts, in_front, all_or_fault, said}
 
 module _ {A : Type 0} (verdict : List Line → Line → Result A Fault) where
   -- a line with a row behind lines without a fault

@@ -1,5 +1,5 @@
 -- The status of a report, by its findings, and the statuses that come with the outcome of a job.
-use Rattle.std.specs.Prelude.{◌≡◌, List, [], ◌∷◌}
+use Rattle.std.specs.Prelude.{List, [], ◌∷◌}
 use Rattle.cvc_base.specs.declared.finding.Finding.{Finding}
 use Rattle.cvc_run.specs.declared.status.Status.{Status}
 use Rattle.cvc_run.specs.declared.status.Status.TheVariants.{Clean, Errors, Words, ReadFault, WriteFault, NoMemory}

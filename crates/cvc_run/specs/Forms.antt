@@ -2,7 +2,7 @@
 -- begins with R or r and is no earlier card's, no token is `=` or a lone `/` or begins with a sign that cards give a meaning to, and fewer than 500,000
 -- cards come before it. The models are the one line `R resistor`. A line of the power file is a name that no earlier line has, the word `power`
 -- without regard to case, and a voltage.
-use Rattle.std.specs.Prelude.{ℕ, nat_lt, ◌==◌, ℤ, List, [], ◌∷◌, length, map, Option, Some, None, Bool, true, false, not, ◌&&◌, ◌||◌, Result, Ok, Err, is_ok, if◌then◌else◌, codes}
+use Rattle.std.specs.Prelude.{ℕ, nat_lt, ◌==◌, ℤ, List, [], ◌∷◌, length, map, Option, Some, None, Bool, false, not, ◌&&◌, ◌||◌, Result, Ok, Err, is_ok, if◌then◌else◌, codes}
 use Rattle.std.specs.List.{list_any}
 use Rattle.std.specs.Str.{bytes_eq, str_eq_ignore_ascii_case}
 use Rattle.cvc_base.specs.declared.fault.Fault.{Fault}

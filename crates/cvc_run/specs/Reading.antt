@@ -1,12 +1,11 @@
 -- What the three files of a job say: the first refused file in the order netlist, models, power, or the first declared name that is no net, or the
 -- circuit and its names.
-use Rattle.std.specs.Prelude.{ℕ, pos, List, [], ◌∷◌, ◌++◌, map, Option, Some, None, Bool, true, false, not, Result, Ok, Err, find, if◌then◌else◌, codes}
+use Rattle.std.specs.Prelude.{ℕ, pos, List, [], ◌∷◌, ◌++◌, map, Option, Some, None, not, Result, Ok, Err, find, if◌then◌else◌, codes}
 use Rattle.std.specs.List.{list_any, position_or_len}
 use Rattle.std.specs.Str.{bytes_eq}
 use Rattle.cvc_base.specs.declared.device.Kind.TheVariants.{Resistor}
 use Rattle.cvc_base.specs.declared.device.Volts.{Volts}
 use Rattle.cvc_base.specs.declared.cause.Cause.TheVariants.{NotBuilt, UnknownNet}
-use Rattle.cvc_base.specs.declared.fault.FileKind.{FileKind}
 use Rattle.cvc_base.specs.declared.fault.FileKind.TheVariants as files
 use Rattle.cvc_base.specs.declared.fault.Fault.{Fault}
 use Rattle.cvc_io.specs.Files.{Files, content}

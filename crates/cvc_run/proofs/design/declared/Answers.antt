@@ -1,4 +1,4 @@
-use Rattle.std.proofs.Common.{◌≡◌, ◌∙◌, ◌++◌, ◌∷◌, [], sym, ap, map, length, take, replicate, Some, None, refl, rules, arith}
+use Rattle.std.proofs.Common.{◌≡◌, ◌∙◌, sym, ap, map, length, take, replicate, Some, None, refl, rules, arith}
 use Rattle.std.specs.List.{position}
 use Rattle.std.specs.Str.{bytes_eq}
 use Rattle.std.proofs.lemmas.List.{length-set}
@@ -29,6 +29,9 @@ loop-row-preserved c =
 
 pub returns-in_default : goal.returns-in_default
 returns-in_default c =
-    let nets = c.args.nets.now in
-    (c.row-item.result, unknown_here nets c.args.rows.now c.loop-row.row-index c.row-item.result c.loop-row-test.true c.row-item.is c.loop-row.invariant.known
-    (ap (λ n. position (bytes_eq n) nets) (sym c.bytes.ensures) ∙ sym c.place_of.ensures ∙ c.in_default.is), c.unknown_net.ensures)
+    let nets = c.args.nets.now in (
+      c.row-item.result,
+      unknown_here nets c.args.rows.now c.loop-row.row-index c.row-item.result c.loop-row-test.true c.row-item.is c.loop-row.invariant.known
+          (ap (λ n. position (bytes_eq n) nets) (sym c.bytes.ensures) ∙ sym c.place_of.ensures ∙ c.in_default.is),
+      c.unknown_net.ensures,
+    )

@@ -1,4 +1,4 @@
-use Rattle.std.proofs.Common.{◌≡◌, sym, ap, ◌∙◌, map}
+use Rattle.std.proofs.Common.{sym, ap, ◌∙◌, map}
 use Rattle.cvc_run.specs.Forms.{text_of, card_of}
 use Rattle.cvc_run.proofs.Tokens.{no_directive, not_four, no_resistor, resistor_read}
 use Rattle.cvc_run.proofs.forms.card.Goals as goal

@@ -1,4 +1,4 @@
-use Rattle.std.proofs.Common.{◌≡◌, sym, ap, ◌∙◌, map}
+use Rattle.std.proofs.Common.{sym, ap, ◌∙◌, map}
 use Rattle.cvc_run.specs.Forms.{text_of, supply_of}
 use Rattle.cvc_run.proofs.Tokens.{not_three, no_power, no_voltage, supply_read}
 use Rattle.cvc_run.proofs.forms.supply.Goals as goal

@@ -3,7 +3,7 @@ use Rattle.std.proofs.lemmas.List.{length_push}
 use Rattle.cvc_run.specs.Forms.{card_verdict}
 use Rattle.cvc_run.specs.Names.{card_view, cards_view}
 use Rattle.cvc_run.proofs.NextLine.{if_some, names_more, is_card, no_card, cards_more}
-use Rattle.cvc_run.proofs.Verdicts.{at_start, at_end, at_row, at_fault}
+use Rattle.cvc_run.proofs.Verdicts.{at_start, at_row, at_fault}
 use Rattle.cvc_run.proofs.judged.said_cards.Goals as goal
 
 pub loop-line-init : goal.loop-line-init

@@ -1,7 +1,7 @@
-use Rattle.std.proofs.Common.{rules, sym, ap, ◌∙◌, map, Ok, Err, []}
+use Rattle.std.proofs.Common.{sym, ap, ◌∙◌, map, Ok, Err, []}
 use Rattle.cvc_run.specs.Forms.{supply_verdict}
 use Rattle.cvc_run.proofs.NextLine.{if_some, names_more, is_supply, no_supply}
-use Rattle.cvc_run.proofs.Verdicts.{at_start, at_end, at_row, at_fault}
+use Rattle.cvc_run.proofs.Verdicts.{at_start, at_row, at_fault}
 use Rattle.cvc_run.proofs.judged.said_supplies.Goals as goal
 
 pub loop-line-init : goal.loop-line-init

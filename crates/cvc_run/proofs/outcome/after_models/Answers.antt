@@ -1,7 +1,4 @@
-use Rattle.std.proofs.Common.{◌≡◌, ◌∙◌, sym, ap}
 use Rattle.cvc_run.specs.Names.{cards_view}
-use Rattle.cvc_run.specs.Reading.{bound}
-use Rattle.cvc_run.specs.Views.{Binds}
 use Rattle.cvc_run.proofs.Ends.{power_stopped, power_accepted, binding_stopped}
 use Rattle.cvc_run.proofs.outcome.after_models.Goals as goal
 

@@ -1,7 +1,6 @@
-use Rattle.std.proofs.Common.{rules, ℕ, List, ◌≡◌, ◌++◌, ◌∙◌, sym, ap, subst, take, arith}
-use Rattle.std.specs.Prelude.{Result, Ok, Err}
+use Rattle.std.proofs.Common.{rules, ℕ, List, ◌++◌, ◌∙◌, subst, take, arith}
+use Rattle.std.specs.Prelude.{Err}
 use Rattle.cvc_base.specs.declared.fault.FileKind.{FileKind}
-use Rattle.cvc_base.specs.declared.fault.Refusal.{Refusal}
 use Rattle.cvc_io.specs.Files.{Takes}
 use Rattle.cvc_lex.specs.Lexing.{Refuses, IfAt, IsFirstFaultOf}
 use Rattle.cvc_lex.specs.Lines.{lexical}

@@ -1,5 +1,5 @@
-use Rattle.std.proofs.Common.{◌≡◌, ◌∙◌, sym, ap, map, List, ℕ}
-use Rattle.cvc_run.specs.Reading.{with_name, net_at}
+use Rattle.std.proofs.Common.{◌∙◌, ap}
+use Rattle.cvc_run.specs.Reading.{with_name}
 use Rattle.cvc_run.proofs.Noted.{noted_names, noted_place}
 use Rattle.cvc_run.proofs.nets.Nets.note.Goals as goal
 
