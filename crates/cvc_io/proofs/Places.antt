@@ -1,14 +1,13 @@
 -- The last file of a name, and what failures do to the counts.
-use Rattle.std.proofs.Common.{◌≡◌, ℕ, zero, suc, ◌+◌, ◌-◌, ◌^◌, ◌<◌, ◌≤◌, ◌⊎◌, inl, inr, List, [], ◌∷◌, ◌++◌, map, length, take, drop, get_or, Option, Some, None, Bool, true, false, cond, refl, sym, ap, subst, ◌∙◌, arith}
+use Rattle.std.proofs.Common.{◌≡◌, ℕ, suc, ◌+◌, ◌-◌, ◌<◌, ◌≤◌, ◌⊎◌, inl, inr, List, [], ◌∷◌, ◌++◌, map, length, take, drop, get_or, Option, Some, None, Bool, true, false, cond, refl, sym, ap, subst, ◌∙◌, arith}
 use Rattle.std.specs.Prelude.{slice_index, slice_set, IfSome, IsSomeAnd}
 use Rattle.std.specs.Option.{option_map}
 use Rattle.std.specs.Str.{bytes_eq}
 use Rattle.std.proofs.lemmas.Slice.Eq.{bytes_eq-Decides}
 use Rattle.std.proofs.lemmas.Bool.{cases_eq}
 use Rattle.std.proofs.lemmas.List.{take_more, take-append-drop, drop-drop, take_all, take_at, length-drop, length-take-le, length-take, get_or-set_same, get_or-set_other}
-use Rattle.cvc_io.specs.Causes.{Rose}
-use Rattle.cvc_io.specs.Files.{File, Files, bytes_of, content, later_or, Standing, IsOpened}
-use Rattle.cvc_io.specs.MemFiles.{file_of, file_at, no_file, place_of, later_place, standing_at, count_at, IsFound, IsOpenFile}
+use Rattle.cvc_io.specs.Files.{bytes_of, IsOpened}
+use Rattle.cvc_io.specs.MemFiles.{file_of, place_of, later_place, standing_at, count_at, IsFound, IsOpenFile}
 use Rattle.cvc_io.specs.SureFiles.{rest_of, standing_with}
 use Rattle.cvc_io.specs.declared.held.MemFile.{MemFile}
 use Rattle.cvc_io.specs.declared.held.OpenFile.{OpenFile}

@@ -1,5 +1,5 @@
 -- What a sink took.
-use Rattle.std.specs.Prelude.{◌≡◌, ℕ, ◌≤◌, List, ◌++◌, length, take, Option, Result, MatchResult, IfOk}
+use Rattle.std.specs.Prelude.{◌≡◌, ℕ, ◌≤◌, List, length, take, Option, Result, MatchResult, IfOk}
 use Rattle.std.specs.Io.KnownBytes.{append_known}
 
 -- a write appended what it took, and nothing where it failed

@@ -1,6 +1,6 @@
 -- Files by name, and the one file that stands open. A name that was given bytes twice has the later ones.
 -- Of an open file the name may be untold; its rest, the bytes that are left, is told exactly where the shelf tells its files.
-use Rattle.std.specs.Prelude.{◌≡◌, ℕ, zero, suc, ◌≤◌, List, [], ◌∷◌, ◌++◌, map, take, Option, Some, None, Bool, true, false, if◌then◌else◌, Result, MatchOption, MatchResult, OnErr, IfSome, IsSomeAnd}
+use Rattle.std.specs.Prelude.{◌≡◌, ℕ, ◌≤◌, List, [], ◌∷◌, take, Option, Some, None, Bool, if◌then◌else◌, Result, MatchOption, MatchResult, IfSome, IsSomeAnd}
 use Rattle.std.specs.Option.{option_map, unwrap_or}
 use Rattle.std.specs.Str.{bytes_eq}
 use Rattle.std.specs.Io.KnownBytes.{prepend_known}

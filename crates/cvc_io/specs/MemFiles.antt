@@ -1,7 +1,7 @@
 -- The files of a shelf in memory, and what stands open of them.
-use Rattle.std.specs.Prelude.{◌≡◌, ℕ, zero, suc, ◌+◌, ◌-◌, ◌^◌, ◌<◌, ◌≤◌, min, List, [], ◌∷◌, map, drop, length, Option, Some, None, Bool, if◌then◌else◌, slice_index, slice_index_or}
+use Rattle.std.specs.Prelude.{◌≡◌, ℕ, suc, ◌+◌, ◌-◌, ◌^◌, ◌<◌, ◌≤◌, min, List, [], ◌∷◌, map, drop, length, Option, Some, None, Bool, if◌then◌else◌, slice_index, slice_index_or}
 use Rattle.std.specs.Str.{bytes_eq}
-use Rattle.cvc_io.specs.Files.{File, Files, Standing, bytes_of}
+use Rattle.cvc_io.specs.Files.{File, Standing, bytes_of}
 use Rattle.cvc_io.specs.declared.held.MemFile.{MemFile}
 use Rattle.cvc_io.specs.declared.held.OpenFile.{OpenFile}
 

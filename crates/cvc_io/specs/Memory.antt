@@ -1,5 +1,5 @@
 -- What is seen of the shelf and the sink in memory.
-use Rattle.std.specs.Prelude.{ℕ, List, [], map, Option, Some, None}
+use Rattle.std.specs.Prelude.{ℕ, List, map, Option}
 use Rattle.std.specs.Option.{option_map}
 use Rattle.cvc_io.specs.Files.{Files, Standing, Counts}
 use Rattle.cvc_io.specs.MemFiles.{file_of, standing_at, place_of, count_at}

@@ -1,5 +1,5 @@
 -- What is seen of the shelf that never fails. Of an open file it tells the rest and no name.
-use Rattle.std.specs.Prelude.{ℕ, List, [], map, drop, Option, Some, None, Bool, true, false, if◌then◌else◌}
+use Rattle.std.specs.Prelude.{ℕ, List, [], map, drop, Option, Some, None, Bool, true, false}
 use Rattle.cvc_io.specs.Files.{Files, Standing}
 use Rattle.cvc_io.specs.MemFiles.{file_of, file_at}
 use Rattle.cvc_io.specs.declared.held.MemFile.{MemFile}

@@ -1,5 +1,7 @@
 //! A sink that never fails.
-ghost use Rattle.std.specs.Prelude.{◌≡◌, None};
+ghost use Rattle.std.specs.Prelude.{◌≡◌, ◌<◌, None, Ok, length};
+ghost use Rattle.cvc_io.specs.Bytes.{TakesSome, Writes};
+ghost use Rattle.cvc_io.specs.Causes.{HasCause};
 
 use crate::{Sink, WriteFailed};
 
@@ -29,11 +31,20 @@ impl CountSink {
 }
 
 impl Sink for CountSink {
+    ghost use Rattle.cvc_io.specs.CountSink.{count_of, count_with};
+
     ghost written = { λ _. None };
 
     ghost faults = { λ _. 0 };
 
-    fn write(&mut self, piece: &[u8]) -> Result<usize, WriteFailed> {
+    fn write(&mut self, piece: &[u8]) -> Result<usize, WriteFailed>
+        requires { 0 < length piece.now }
+        ensures bound { TakesSome result piece.now }
+        ensures bytes { Writes None None result piece.now }
+        ensures cause { HasCause 0 0 result }
+        ensures whole { result ≡ Ok (length piece.now) }
+        ensures count { count_of self.new ≡ count_with (count_of self.old) (length piece.now) }
+    {
         self.count = self.count.saturating_add(piece.len() as u64);
         Ok(piece.len())
     }

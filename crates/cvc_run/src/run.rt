@@ -64,7 +64,7 @@ fn run_job<S: Shelf, K: Sink>(alloc: Global, job: &Job, shelf: &mut S, sink: &mu
 }
 
 /// Checks a netlist on one thread: reads the job's three files, and writes the report of the least voltage family or the line of the first
-/// refusal. It always returns, and leaves no file open.
+/// refusal. Reading and binding take time and memory linear in the files. It always returns, and leaves no file open.
 pub fn check_serial<S: Shelf, K: Sink>(
     alloc: Global,
     job: &Job,

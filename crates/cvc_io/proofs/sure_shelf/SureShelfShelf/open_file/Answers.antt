@@ -1,4 +1,4 @@
-use Rattle.std.proofs.Common.{◌≡◌, sym, ap, ◌∙◌}
+use Rattle.std.proofs.Common.{sym, ap, ◌∙◌}
 use Rattle.cvc_io.specs.MemFiles.{place_of}
 use Rattle.cvc_io.proofs.Places.{opens_surely}
 use Rattle.cvc_io.proofs.sure_shelf.SureShelfShelf.open_file.Goals as goal
