@@ -1,0 +1,17 @@
+pub mod Levels
+pub mod Netlist
+pub mod Building
+pub mod Ending
+pub mod WellFormed
+pub mod Builder
+pub mod Held
+pub mod Drafting
+pub mod Text
+pub mod Lookup
+pub mod Finishing
+pub mod Chains
+pub mod Peeling
+pub mod File
+pub mod Alike
+pub mod Printed
+pub mod Pieces
