@@ -1,0 +1,5 @@
+//! Worked rows that cross crates, as tests. There is no other code here.
+#![tactic(auto)]
+
+#[cfg(test)]
+mod tests;
