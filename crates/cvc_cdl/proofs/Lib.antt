@@ -10,7 +10,6 @@ pub mod Endings
 pub mod Finished
 pub mod Ordered
 pub mod Ended
-pub mod Forming
 pub mod Reading
 pub mod Times
 pub mod Outside

@@ -13,7 +13,7 @@ use Rattle.cvc_cdl.specs.Ending.{ending_fault, reading_of, unless_fault}
 use Rattle.cvc_cdl.specs.Finishing.{Finishes, draft_fault, draft_netlist}
 use Rattle.cvc_cdl.specs.WellFormed.{IsWellFormed}
 use Rattle.cvc_cdl.proofs.Ended.{ending_same}
-use Rattle.cvc_cdl.proofs.Forming.{well_formed}
+use Rattle.cvc_cdl.proofs.RebuiltRead.{is_netlist}
 
 module _ (draft : Draft) (es : List Entry) (top : Option (List ℕ)) where
   module _ (b : IsBuilding draft es) where
@@ -39,7 +39,7 @@ module _ (draft : Draft) (es : List Entry) (top : Option (List ℕ)) where
     fault_by (Err NoMemory) h = tt
 
     formed_by : (r : Result Netlist Refusal) → Finishes draft top r → IfOk r IsWellFormed
-    formed_by (Ok n) h = subst IsWellFormed (netlist ∙ sym h.1) (well_formed es top b.formed b.faultless (ended None h.0))
+    formed_by (Ok n) h = subst IsWellFormed (netlist ∙ sym h.1) (is_netlist es top b.faultless (ended None h.0) b.formed).well_formed
     formed_by (Err (At fault)) h = tt
     formed_by (Err NoMemory) h = tt
 
