@@ -1,13 +1,10 @@
 //! The faults of a netlist as a whole.
 ghost use Rattle.std.specs.Prelude.{◌≡◌, ◌++◌, map, take, drop, IfOk, OnOk};
-ghost use Rattle.std.specs.List.{find};
-ghost use Rattle.std.specs.Option.{option_map};
 ghost use Rattle.cvc_cdl.specs.Netlist.{name_of_cell};
-ghost use Rattle.cvc_cdl.specs.Building.{fault_at};
 ghost use Rattle.cvc_cdl.specs.Builder.{named_top};
 ghost use Rattle.cvc_cdl.specs.Ending.{first_instance_fault, top_fault};
 ghost use Rattle.cvc_cdl.specs.Chains.{TellsEndless, all_numbers};
-ghost use Rattle.cvc_cdl.specs.Finishing.{cells_fault_in, endless_fault_in, file_instances, instances_in, insts_held, all_uses_in, names_endless, place_at, place_used, uses_in};
+ghost use Rattle.cvc_cdl.specs.Finishing.{all_uses_in, cells_fault_in, endless_fault_in, file_instances, instances_in, insts_held, names_endless, place_at, place_used, uses_in};
 
 use crate::endless::endless_cells;
 use crate::fault::fault_at;

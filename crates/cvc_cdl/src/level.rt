@@ -1,5 +1,5 @@
 //! What stands on one level.
-ghost use Rattle.std.specs.Prelude.{◌≡◌, [], ◌∷◌, ◌++◌};
+ghost use Rattle.std.specs.Prelude.{◌≡◌, []};
 ghost use Rattle.cvc_cdl.specs.Drafting.{Becomes, item_cause, level_with};
 
 use crate::names::Names;

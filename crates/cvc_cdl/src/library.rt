@@ -1,7 +1,6 @@
 //! The cells of a netlist by their names.
-ghost use Rattle.std.specs.Prelude.{◌≡◌, ◌<◌, length, map, is_some, IfOk, IfSome, slice_index_or};
+ghost use Rattle.std.specs.Prelude.{◌≡◌, ◌<◌, length, map, IfOk, IfSome};
 ghost use Rattle.cvc_cdl.specs.Netlist.{name_of_cell};
-ghost use Rattle.cvc_cdl.specs.Building.{is_among};
 ghost use Rattle.cvc_cdl.specs.Ending.{connects_ports, instance_cause, ports_cause};
 ghost use Rattle.cvc_cdl.specs.Lookup.{FindsCells, FindsPorts, FindsEachPort, place_of};
 

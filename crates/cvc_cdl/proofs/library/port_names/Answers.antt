@@ -9,7 +9,7 @@ loop-cell-init c = let P : List PortNames → Type 0 = AreTheirPorts [] in subst
 pub loop-cell-preserved : goal.loop-cell-preserved
 loop-cell-preserved c =
     let P : List PortNames → Type 0 = AreTheirPorts (take (c.loop-cell.cell-index + 1) c.args.cells.now) in
-    subst P (sym c.in_ok-push.ensures.items)
+    subst P (sym {A = List PortNames} c.in_ok-push.ensures.items)
     (ports_push c.args.cells.now c.loop-cell.cell-index c.loop-cell.names.items c.cell-item.result c.as_slice.result.now c.in_ok-of.field-0 c.loop-cell-test.true c.cell-item.is c.as_slice.ensures c.in_ok-of.ensures
     c.loop-cell.invariant)
 
