@@ -17,8 +17,11 @@ pub enum Kind {
 /// The voltages of a device's model.
 #[derive(Clone, Copy, Debug, PartialEq, Eq)]
 pub struct Volts {
-    /// The threshold: as written for an nmos, its magnitude for a pmos, 0 for every other kind.
+    /// The threshold at the corner that conducts most: for an nmos the lesser of the two that its row gives, for a pmos the lesser of
+    /// their magnitudes, 0 for every other kind. Conduction and all rules but the last go by it.
     pub threshold: Mv,
+    /// The threshold at the corner that conducts least: the greater of the two. It equals `threshold` where the row gives one voltage.
+    pub weak: Mv,
     /// What a conducting diode drops, 0 for every other kind.
     pub drop: Mv,
     /// The bias that a junction of a MOS bears, 0 for every other kind.

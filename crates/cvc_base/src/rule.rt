@@ -25,4 +25,6 @@ pub enum Rule {
     SupplyPath,
     /// Nothing drives the gate of a MOS.
     FloatingGate,
+    /// A MOS leaks even at the corner that conducts least.
+    SureLeak,
 }

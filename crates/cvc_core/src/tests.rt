@@ -21,6 +21,7 @@ fn resistor() -> Device
         pins,
         volts: Volts {
             threshold: zero,
+            weak: zero,
             drop: zero,
             junction: zero,
             vgs: None,

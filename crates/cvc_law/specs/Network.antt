@@ -115,6 +115,8 @@ pub record IsDevice (net_count : ℕ) (d : Device) : Type 0 where
   pub drop : pos 0 ≤ℤ d.volts.drop
   pub junction : pos 0 ≤ℤ d.volts.junction
   pub threshold : d.kind ≡ Pmos → pos 0 ≤ℤ d.volts.threshold
+  -- the corner that conducts most has the lesser threshold
+  pub corners : d.volts.threshold ≤ℤ d.volts.weak
 
 pub record IsCircuit (fixed : List (Option Fixed)) (devices : List Device) : Type 0 where
   pub few_nets : length fixed ≤ 1000000

@@ -81,7 +81,7 @@ abbrev pub declared_reach : Network → ℕ → ℕ
 declared_reach c b = reach_on c (b % 2) (declared_interval (fixed_at c (b / 2)))
 
 abbrev pub no_volts : Volts
-no_volts = record { threshold = pos 0; drop = pos 0; junction = pos 0; vgs = None; vgd = None; vds = None; vbs = None; vbd = None; vbg = None }
+no_volts = record { threshold = pos 0; weak = pos 0; drop = pos 0; junction = pos 0; vgs = None; vgd = None; vds = None; vbs = None; vbd = None; vbg = None }
 
 -- stands where a device's number is too great; it hands nothing on
 abbrev pub no_device : Device

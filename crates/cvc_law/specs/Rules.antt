@@ -9,7 +9,7 @@ use Rattle.cvc_base.specs.declared.device.Kind.{Kind}
 use Rattle.cvc_base.specs.declared.device.Kind.TheVariants.{Nmos, Pmos, Resistor, Diode, Inductor}
 use Rattle.cvc_base.specs.declared.device.Volts.{Volts}
 use Rattle.cvc_base.specs.declared.rule.Rule.{Rule}
-use Rattle.cvc_base.specs.declared.rule.Rule.TheVariants.{OvervoltageGs, OvervoltageGd, OvervoltageDs, OvervoltageBs, OvervoltageBd, OvervoltageBg, ForwardBias, SourceBulk, PossibleLeak, SupplyPath, FloatingGate}
+use Rattle.cvc_base.specs.declared.rule.Rule.TheVariants.{OvervoltageGs, OvervoltageGd, OvervoltageDs, OvervoltageBs, OvervoltageBd, OvervoltageBg, ForwardBias, SourceBulk, PossibleLeak, SupplyPath, FloatingGate, SureLeak}
 use Rattle.cvc_base.specs.declared.finding.Finding.{Finding}
 use Rattle.cvc_law.specs.declared.interval.Interval.{Interval}
 use Rattle.cvc_law.specs.declared.interval.Fixed.{Fixed}
@@ -75,19 +75,28 @@ abbrev pub differ : Option ℤ → Option ℤ → Bool
 differ (Some x) (Some y) = not (int_eq x y)
 differ _ _ = false
 
--- the lowest gate doesn't turn an nmos off at its channel's low, or the highest doesn't turn a pmos off at its channel's high
-abbrev pub stays_on : Kind → Volts → ℤ → ℤ → ℤ → ℤ → Bool
-stays_on Nmos v gate_low gate_high channel_low channel_high = int_lt channel_low (gate_low -ℤ v.threshold)
-stays_on Pmos v gate_low gate_high channel_low channel_high = int_lt (gate_high +ℤ v.threshold) channel_high
-stays_on _ v gate_low gate_high channel_low channel_high = false
+-- at this threshold the lowest gate doesn't turn an nmos off at its channel's low, or the highest doesn't turn a pmos off at its channel's high
+abbrev pub stays_on : Kind → ℤ → ℤ → ℤ → ℤ → ℤ → Bool
+stays_on Nmos threshold gate_low gate_high channel_low channel_high = int_lt channel_low (gate_low -ℤ threshold)
+stays_on Pmos threshold gate_low gate_high channel_low channel_high = int_lt (gate_high +ℤ threshold) channel_high
+stays_on _ threshold gate_low gate_high channel_low channel_high = false
 
 -- the gate's low and high, and the channel's
-abbrev pub leak_of : Kind → Volts → Option ℤ → Option ℤ → Option ℤ → Option ℤ → Option Numbers
-leak_of k v (Some gl) (Some gh) (Some cl) (Some ch) = if differ (Some gl) (Some gh) && differ (Some cl) (Some ch) && stays_on k v gl gh cl ch then Some record { first = gl; second = gh; third = cl; fourth = ch } else None
-leak_of k v _ _ _ _ = None
+abbrev pub leak_of : Kind → ℤ → Option ℤ → Option ℤ → Option ℤ → Option ℤ → Option Numbers
+leak_of k threshold (Some gl) (Some gh) (Some cl) (Some ch) = if differ (Some gl) (Some gh) && differ (Some cl) (Some ch) && stays_on k threshold gl gh cl ch then Some record { first = gl; second = gh; third = cl; fourth = ch } else None
+leak_of k threshold _ _ _ _ = None
 
+-- a MOS that may leak at this threshold
+abbrev pub leak_at : Device → ℤ → Interval → Interval → Interval → Option Numbers
+leak_at d threshold gate drain source = leak_of d.kind threshold gate.low gate.high (lesser_of drain.low source.low) (greater_of drain.high source.high)
+
+-- at the corner that conducts most
 abbrev pub possible_leak : Device → Interval → Interval → Interval → Option Numbers
-possible_leak d gate drain source = leak_of d.kind d.volts gate.low gate.high (lesser_of drain.low source.low) (greater_of drain.high source.high)
+possible_leak d gate drain source = leak_at d d.volts.threshold gate drain source
+
+-- at the corner that conducts least, of a model whose corners differ
+abbrev pub sure_leak : Device → Interval → Interval → Interval → Option Numbers
+sure_leak d gate drain source = if int_eq d.volts.threshold d.volts.weak then None else leak_at d d.volts.weak gate drain source
 
 abbrev pub is_path : Kind → Bool
 is_path Resistor = true
@@ -122,6 +131,7 @@ holds c f d SourceBulk = source_bulk d.kind d.volts (interval_at f (bulk d)) (in
 holds c f d PossibleLeak = possible_leak d (interval_at f (gate d)) (interval_at f (end_a d)) (interval_at f (end_b d))
 holds c f d SupplyPath = supply_path c d
 holds c f d FloatingGate = floating_gate d (interval_at f (gate d))
+holds c f d SureLeak = sure_leak d (interval_at f (gate d)) (interval_at f (end_a d)) (interval_at f (end_b d))
 
 abbrev pub finding_with : Rule → ℕ → Option Numbers → Option Finding
 finding_with rule i None = None
@@ -144,7 +154,7 @@ abbrev pub findings_by : Network → List Interval → Rule → List Finding
 findings_by c f rule = findings_below c f rule (devices c)
 
 abbrev pub all_rules : List Rule
-all_rules = OvervoltageGs ∷ OvervoltageGd ∷ OvervoltageDs ∷ OvervoltageBs ∷ OvervoltageBd ∷ OvervoltageBg ∷ ForwardBias ∷ SourceBulk ∷ PossibleLeak ∷ SupplyPath ∷ FloatingGate ∷ []
+all_rules = OvervoltageGs ∷ OvervoltageGd ∷ OvervoltageDs ∷ OvervoltageBs ∷ OvervoltageBd ∷ OvervoltageBg ∷ ForwardBias ∷ SourceBulk ∷ PossibleLeak ∷ SupplyPath ∷ FloatingGate ∷ SureLeak ∷ []
 
 -- all findings: by rule, and of one rule by device
 abbrev pub findings_of : Network → List Interval → List Finding

@@ -58,6 +58,9 @@ fn is_device(net_count: usize, device: &Device) -> bool
     if !is_threshold(device.kind, device.volts.threshold) {
         return false;
     }
+    if device.volts.threshold.get() > device.volts.weak.get() {
+        return false;
+    }
     if device.volts.drop.get() < 0 {
         return false;
     }
@@ -128,6 +131,7 @@ fn device(rt: &impl Abort, kind: Kind, nets: [u32; 4], threshold: i64, drop: i64
     }
     let volts = Volts {
         threshold: mv(rt, threshold),
+        weak: mv(rt, threshold),
         drop: mv(rt, drop),
         junction: mv(rt, 0),
         vgs: None,

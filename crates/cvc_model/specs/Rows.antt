@@ -32,6 +32,7 @@ abbrev pub volts_with : Voltages → Option ℤ → Result Volts Cause
 volts_with given None = Err MissingVth
 volts_with given (Some threshold) = Ok (record {
   threshold = threshold;
+  weak = threshold;
   drop = unwrap_or given.vf (pos 0);
   junction = unwrap_or given.vj (pos 0);
   vgs = given.vgs;

@@ -69,6 +69,7 @@ pub(crate) fn volts_of(kind: Kind, given: &Voltages) -> Result<Volts, Cause>
     };
     Ok(Volts {
         threshold,
+        weak: threshold,
         drop: or_zero(given.vf),
         junction: or_zero(given.vj),
         vgs: given.vgs,

@@ -33,7 +33,7 @@ module _ (names : List (List ℕ)) (card : Card) (first : list_any (bytes_eq car
   on_nets (suc (suc i)) lt = absurd (omega arith)
 
   sound_one : IsDevice (length names) (resistor names card)
-  sound_one = record { pin_count = refl; on_nets = on_nets; drop = omega (arith, ints); junction = omega (arith, ints); threshold = λ e. cc }
+  sound_one = record { pin_count = refl; on_nets = on_nets; drop = omega (arith, ints); junction = omega (arith, ints); threshold = λ e. cc; corners = omega (arith, ints) }
 
 sound : (names : List (List ℕ)) (cards : List Card) → HasEnds names cards → (i : ℕ) (d : Device) → slice_get (map (resistor names) cards) i ≡ Some d → IsDevice (length names) d
 sound names [] ends i d e = cc

@@ -5,15 +5,14 @@ use Rattle.std.specs.Option.{option_to_list}
 use Rattle.std.proofs.lemmas.List.{append-nil}
 use Rattle.std.proofs.lemmas.List.Elements.{All-nil, All-cons, All-append, All-weaker}
 use Rattle.cvc_base.specs.declared.device.Kind.TheVariants.{Resistor}
-use Rattle.cvc_base.specs.declared.device.Volts.{Volts}
 use Rattle.cvc_base.specs.declared.rule.Rule.{Rule}
-use Rattle.cvc_base.specs.declared.rule.Rule.TheVariants.{OvervoltageGs, OvervoltageGd, OvervoltageDs, OvervoltageBs, OvervoltageBd, OvervoltageBg, ForwardBias, SourceBulk, PossibleLeak, SupplyPath, FloatingGate}
+use Rattle.cvc_base.specs.declared.rule.Rule.TheVariants.{OvervoltageGs, OvervoltageGd, OvervoltageDs, OvervoltageBs, OvervoltageBd, OvervoltageBg, ForwardBias, SourceBulk, PossibleLeak, SupplyPath, FloatingGate, SureLeak}
 use Rattle.cvc_base.specs.declared.finding.Finding.{Finding}
 use Rattle.cvc_law.specs.declared.interval.Interval.{Interval}
 use Rattle.cvc_law.specs.declared.device.Device.{Device}
 use Rattle.cvc_law.specs.Network.{Network, devices, gate, end_a, end_b}
 use Rattle.cvc_law.specs.Family.{interval_at}
-use Rattle.cvc_law.specs.Rules.{Numbers, leak_of, differ, lesser_of, greater_of, possible_leak, holds, numbers_at, finding_with, finding_at, findings_below, findings_by, findings_of}
+use Rattle.cvc_law.specs.Rules.{Numbers, leak_of, differ, lesser_of, greater_of, leak_at, possible_leak, sure_leak, holds, numbers_at, finding_with, finding_at, findings_below, findings_by, findings_of}
 use Rattle.cvc_run.specs.Resistors.{AreResistors, IsPathBelow}
 
 pub findings_more : (c : Network) (f : List Interval) (rule : Rule) (d : ℕ) → findings_below c f rule (d + 1) ≡ findings_below c f rule d ++ option_to_list (finding_at c f rule d)
@@ -32,15 +31,25 @@ no_test : (b : Bool) (x : Option Numbers) → cond (b && false) x None ≡ None
 no_test true x = refl
 no_test false x = refl
 
-no_leak : (v : Volts) (gl gh cl ch : Option ℤ) → leak_of Resistor v gl gh cl ch ≡ None
-no_leak v None gh cl ch = refl
-no_leak v (Some gl) None cl ch = refl
-no_leak v (Some gl) (Some gh) None ch = refl
-no_leak v (Some gl) (Some gh) (Some cl) None = refl
-no_leak v (Some gl) (Some gh) (Some cl) (Some ch) = no_test (differ (Some gl) (Some gh) && differ (Some cl) (Some ch)) _
+no_leak : (t : ℤ) (gl gh cl ch : Option ℤ) → leak_of Resistor t gl gh cl ch ≡ None
+no_leak t None gh cl ch = refl
+no_leak t (Some gl) None cl ch = refl
+no_leak t (Some gl) (Some gh) None ch = refl
+no_leak t (Some gl) (Some gh) (Some cl) None = refl
+no_leak t (Some gl) (Some gh) (Some cl) (Some ch) = no_test (differ (Some gl) (Some gh) && differ (Some cl) (Some ch)) _
+
+no_leak_at : (d : Device) (t : ℤ) (g drain source : Interval) → d.kind ≡ Resistor → leak_at d t g drain source ≡ None
+no_leak_at d t g drain source e = rw e (no_leak t g.low g.high (lesser_of drain.low source.low) (greater_of drain.high source.high))
 
 no_possible_leak : (d : Device) (g drain source : Interval) → d.kind ≡ Resistor → possible_leak d g drain source ≡ None
-no_possible_leak d g drain source e = rw e (no_leak d.volts g.low g.high (lesser_of drain.low source.low) (greater_of drain.high source.high))
+no_possible_leak d g drain source e = no_leak_at d d.volts.threshold g drain source e
+
+either : (b : Bool) (x : Option Numbers) → x ≡ None → cond b None x ≡ None
+either true x e = refl
+either false x e = e
+
+no_sure_leak : (d : Device) (g drain source : Interval) → d.kind ≡ Resistor → sure_leak d g drain source ≡ None
+no_sure_leak d g drain source e = either _ _ (no_leak_at d d.volts.weak g drain source e)
 
 abbrev pub IsNoPath : Rule → Type 0
 IsNoPath SupplyPath = ⊥
@@ -58,6 +67,7 @@ nothing c f d SourceBulk other e = rw e refl
 nothing c f d PossibleLeak other e = no_possible_leak d (interval_at f (gate d)) (interval_at f (end_a d)) (interval_at f (end_b d)) e
 nothing c f d SupplyPath other e = absurd other
 nothing c f d FloatingGate other e = rw e refl
+nothing c f d SureLeak other e = no_sure_leak d (interval_at f (gate d)) (interval_at f (end_a d)) (interval_at f (end_b d)) e
 
 nothing_at : (c : Network) (f : List Interval) (rule : Rule) (i : ℕ) (o : Option Device) → IsNoPath rule → ((d : Device) → o ≡ Some d → d.kind ≡ Resistor) → finding_with rule i (numbers_at c f rule o) ≡ None
 nothing_at c f rule i None other resistors = refl
@@ -70,7 +80,7 @@ nothing_below c f rule (suc n) other resistors = rw (nothing_below c f rule n ot
 -- a circuit of resistors has supply paths alone
 pub only_paths : (c : Network) (f : List Interval) → AreResistors c → findings_of c f ≡ findings_by c [] SupplyPath
 only_paths c f resistors =
-    rw (nothing_below c f OvervoltageGs (devices c) tt resistors, nothing_below c f OvervoltageGd (devices c) tt resistors, nothing_below c f OvervoltageDs (devices c) tt resistors, nothing_below c f OvervoltageBs (devices c) tt resistors, nothing_below c f OvervoltageBd (devices c) tt resistors, nothing_below c f OvervoltageBg (devices c) tt resistors, nothing_below c f ForwardBias (devices c) tt resistors, nothing_below c f SourceBulk (devices c) tt resistors, nothing_below c f PossibleLeak (devices c) tt resistors, nothing_below c f FloatingGate (devices c) tt resistors)
+    rw (nothing_below c f OvervoltageGs (devices c) tt resistors, nothing_below c f OvervoltageGd (devices c) tt resistors, nothing_below c f OvervoltageDs (devices c) tt resistors, nothing_below c f OvervoltageBs (devices c) tt resistors, nothing_below c f OvervoltageBd (devices c) tt resistors, nothing_below c f OvervoltageBg (devices c) tt resistors, nothing_below c f ForwardBias (devices c) tt resistors, nothing_below c f SourceBulk (devices c) tt resistors, nothing_below c f PossibleLeak (devices c) tt resistors, nothing_below c f FloatingGate (devices c) tt resistors, nothing_below c f SureLeak (devices c) tt resistors)
     (append-nil (findings_by c f SupplyPath) ∙ paths_below c f (devices c))
 
 path_finding : (i : ℕ) (o : Option Numbers) → All (IsPathBelow (suc i)) (option_to_list (finding_with SupplyPath i o))

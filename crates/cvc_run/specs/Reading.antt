@@ -50,7 +50,7 @@ pub data Reading : Type 0 where
   Accepted : Design → Reading
 
 abbrev pub no_volts : Volts
-no_volts = record { threshold = pos 0; drop = pos 0; junction = pos 0; vgs = None; vgd = None; vds = None; vbs = None; vbd = None; vbg = None }
+no_volts = record { threshold = pos 0; weak = pos 0; drop = pos 0; junction = pos 0; vgs = None; vgd = None; vds = None; vbs = None; vbd = None; vbg = None }
 
 -- one name more, unless it is there
 abbrev pub with_name : List (List ℕ) → List ℕ → List (List ℕ)

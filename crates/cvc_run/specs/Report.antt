@@ -4,7 +4,7 @@ use Rattle.std.specs.Prelude.{ℕ, zero, suc, ℤ, List, [], ◌∷◌, ◌++◌
 use Rattle.std.specs.Fmt.{signed_decimal}
 use Rattle.std.specs.List.{flat_map}
 use Rattle.cvc_base.specs.declared.rule.Rule.{Rule}
-use Rattle.cvc_base.specs.declared.rule.Rule.TheVariants.{OvervoltageGs, OvervoltageGd, OvervoltageDs, OvervoltageBs, OvervoltageBd, OvervoltageBg, ForwardBias, SourceBulk, PossibleLeak, SupplyPath, FloatingGate}
+use Rattle.cvc_base.specs.declared.rule.Rule.TheVariants.{OvervoltageGs, OvervoltageGd, OvervoltageDs, OvervoltageBs, OvervoltageBd, OvervoltageBg, ForwardBias, SourceBulk, PossibleLeak, SupplyPath, FloatingGate, SureLeak}
 use Rattle.cvc_base.specs.declared.finding.Finding.{Finding}
 use Rattle.cvc_law.specs.declared.interval.Interval.{Interval}
 use Rattle.cvc_law.specs.declared.interval.Fixed.{Fixed}
@@ -73,15 +73,21 @@ rule_word SourceBulk = codes "source-bulk"
 rule_word PossibleLeak = codes "possible-leak"
 rule_word SupplyPath = codes "supply-path"
 rule_word FloatingGate = codes "floating-gate"
+rule_word SureLeak = codes "sure-leak"
 
 -- the net at the gate of a device, by its number
 abbrev pub gate_of : Option Device → ℕ
 gate_of None = 0
 gate_of (Some d) = gate d
 
+-- the gate's bounds and the channel's
+abbrev pub leak_details : Finding → List (List ℕ)
+leak_details x = codes "gate" ∷ signed_decimal x.first ∷ signed_decimal x.second ∷ codes "channel" ∷ signed_decimal x.third ∷ signed_decimal x.fourth ∷ []
+
 -- what stands behind the rule, the path and the model
 abbrev pub details : Network → Labels → Finding → Rule → List (List ℕ)
-details c l x PossibleLeak = codes "gate" ∷ signed_decimal x.first ∷ signed_decimal x.second ∷ codes "channel" ∷ signed_decimal x.third ∷ signed_decimal x.fourth ∷ []
+details c l x PossibleLeak = leak_details x
+details c l x SureLeak = leak_details x
 details c l x SupplyPath = codes "ends" ∷ signed_decimal x.first ∷ signed_decimal x.second ∷ signed_decimal x.third ∷ signed_decimal x.fourth ∷ []
 details c l x FloatingGate = codes "net" ∷ net_name l (gate_of (slice_get c.devices x.device.0)) ∷ []
 details c l x _ = codes "limit" ∷ signed_decimal x.first ∷ codes "found" ∷ signed_decimal x.second ∷ []

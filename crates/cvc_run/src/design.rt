@@ -39,6 +39,7 @@ fn plain_volts() -> Volts
 {
     Volts {
         threshold: zero(),
+        weak: zero(),
         drop: zero(),
         junction: zero(),
         vgs: None,

@@ -60,6 +60,7 @@ fn device_of(card: Card) -> Option<Device> {
     }
     let volts = Volts {
         threshold: if is_mos(card.kind) { volt } else { zero },
+        weak: if is_mos(card.kind) { volt } else { zero },
         drop: if is_mos(card.kind) { zero } else { volt },
         junction: zero,
         vgs: None,
@@ -109,6 +110,9 @@ fn is_device(net_count: usize, device: &Device) -> bool
         return false;
     }
     if device.volts.junction.get() < 0 {
+        return false;
+    }
+    if device.volts.threshold.get() > device.volts.weak.get() {
         return false;
     }
     device.volts.threshold.get() >= 0
