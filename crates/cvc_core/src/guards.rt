@@ -1,5 +1,7 @@
 //! What the guards of events ask of a run.
 ghost use Rattle.std.specs.Prelude.{◌≡◌, ℕ, ◌<◌, None, true, IsTrue, ◌↔◌, length};
+ghost use Rattle.cvc_law.specs.Network.{is_declared};
+ghost use Rattle.cvc_law.specs.Conduction.{target};
 ghost use Rattle.cvc_law.specs.Reach.{needs};
 ghost use Rattle.cvc_core.specs.State.{device_of, read_at};
 ghost use Rattle.cvc_core.specs.Steps.{NothingGiven, IsLoaded, IsSettled, IsUnsettled};
@@ -36,6 +38,15 @@ fn is_loaded(circuit: &Circuit, run: &Run) -> bool
     true
 }
 
+/// Whether the net that a slot gives to is declared.
+fn is_target_declared(circuit: &Circuit, run: &Run, slot: u8) -> bool
+    requires { IsReady circuit.now run.now }
+    ensures { result ≡ is_declared circuit.now (target (device_of circuit.now run.now) slot) }
+{
+    let net = circuit.device(run.device).target(slot);
+    circuit.fixed(net).is_some()
+}
+
 /// Whether a slot was given, or gives nothing, or has a declared target.
 fn is_settled(circuit: &Circuit, run: &Run, slot: u8) -> bool
     requires ready { IsReady circuit.now run.now }
@@ -44,9 +55,7 @@ fn is_settled(circuit: &Circuit, run: &Run, slot: u8) -> bool
 {
     run.given[usize::from(slot)]
         || offer(circuit, run, slot) == 0
-        || circuit
-            .fixed(circuit.device(run.device).target(slot))
-            .is_some()
+        || is_target_declared(circuit, run, slot)
 }
 
 /// Whether every slot is settled.
@@ -79,9 +88,7 @@ fn is_unsettled(circuit: &Circuit, run: &Run, slot: u8) -> bool
 {
     !run.given[usize::from(slot)]
         && offer(circuit, run, slot) > 0
-        && circuit
-            .fixed(circuit.device(run.device).target(slot))
-            .is_none()
+        && !is_target_declared(circuit, run, slot)
 }
 
 /// Whether a slot may be given now.

@@ -4,6 +4,7 @@ use Rattle.cvc_base.specs.declared.ids.DevId.{DevId}
 use Rattle.cvc_law.specs.declared.interval.Fixed.{Fixed}
 use Rattle.cvc_law.specs.declared.device.Device.{Device}
 use Rattle.cvc_law.specs.Network.{IsCircuit, least_low, greatest_high}
+use Rattle.cvc_law.specs.ReachWord.{IsInMillion}
 use Rattle.cvc_law.specs.Fans.{IsFans}
 
 pub record IsKept (fixed : List (Option Fixed)) (devices : List Device) (offsets : List ℕ) (fan_devices : List DevId) (lowest highest : Option ℤ) : Type 0 where
@@ -11,3 +12,4 @@ pub record IsKept (fixed : List (Option Fixed)) (devices : List Device) (offsets
   pub fans : IsFans (length fixed) devices offsets fan_devices
   pub floor : lowest ≡ least_low fixed
   pub ceiling : highest ≡ greatest_high fixed
+  pub in_million : IsInMillion record { fixed = fixed; devices = devices }

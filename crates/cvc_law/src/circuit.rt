@@ -2,6 +2,7 @@
 ghost use Rattle.std.specs.Prelude.{◌≡◌, ◌<◌, Option, Some, map, slice_get, IfOk, All};
 ghost use Rattle.cvc_law.specs.Network.{IsCircuit, IsDevice, nets, devices, fixed_at, fan_of, floor_of, ceiling_of};
 ghost use Rattle.cvc_law.specs.Reach.{device_at};
+ghost use Rattle.cvc_law.specs.ReachWord.{IsInMillion};
 
 use crate::fans::{Fans, fans_of};
 use crate::range::{highest, lowest};
@@ -102,14 +103,16 @@ impl Circuit {
 
     /// The least declared low, in millivolts: `None` where nothing is declared.
     pub fn floor(&self) -> Option<Mv>
-        ensures { result ≡ floor_of self.now }
+        ensures floor { result ≡ floor_of self.now }
+        ensures in_million { IsInMillion self.now }
     {
         self.floor
     }
 
     /// The greatest declared high, in millivolts: `None` where nothing is declared.
     pub fn ceiling(&self) -> Option<Mv>
-        ensures { result ≡ ceiling_of self.now }
+        ensures ceiling { result ≡ ceiling_of self.now }
+        ensures in_million { IsInMillion self.now }
     {
         self.ceiling
     }

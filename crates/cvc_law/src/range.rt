@@ -1,5 +1,5 @@
 //! The range of the declared voltages.
-ghost use Rattle.std.specs.Prelude.{◌≡◌};
+ghost use Rattle.std.specs.Prelude.{◌≡◌, ◌≤ℤ◌, pos, neg_ℤ, IfSome};
 ghost use Rattle.cvc_law.specs.Network.{lesser, greater, least_low, greatest_high};
 
 use crate::Fixed;
@@ -7,7 +7,8 @@ use cvc_base::Mv;
 
 /// The lesser of a voltage and another, if there is another.
 fn lesser(x: Mv, other: Option<Mv>) -> Option<Mv>
-    ensures { result ≡ lesser x other }
+    ensures lesser { result ≡ lesser x other }
+    ensures in_million { IfSome other (λ y. neg_ℤ (pos 1000000) ≤ℤ y) → IfSome result (λ y. neg_ℤ (pos 1000000) ≤ℤ y) }
 {
     match other {
         Some(y) if y.get() < x.get() => Some(y),
@@ -17,7 +18,8 @@ fn lesser(x: Mv, other: Option<Mv>) -> Option<Mv>
 
 /// The greater of a voltage and another, if there is another.
 fn greater(x: Mv, other: Option<Mv>) -> Option<Mv>
-    ensures { result ≡ greater x other }
+    ensures greater { result ≡ greater x other }
+    ensures in_million { IfSome other (λ y. y ≤ℤ pos 1000000) → IfSome result (λ y. y ≤ℤ pos 1000000) }
 {
     match other {
         Some(y) if x.get() <= y.get() => Some(y),
@@ -27,7 +29,8 @@ fn greater(x: Mv, other: Option<Mv>) -> Option<Mv>
 
 /// The least declared low.
 pub(crate) fn lowest(fixed: &[Option<Fixed>]) -> Option<Mv>
-    ensures { result ≡ least_low fixed.now }
+    ensures least { result ≡ least_low fixed.now }
+    ensures in_million { IfSome result (λ v. neg_ℤ (pos 1000000) ≤ℤ v) }
 {
     let mut floor = None;
     for declared in fixed {
@@ -40,7 +43,8 @@ pub(crate) fn lowest(fixed: &[Option<Fixed>]) -> Option<Mv>
 
 /// The greatest declared high.
 pub(crate) fn highest(fixed: &[Option<Fixed>]) -> Option<Mv>
-    ensures { result ≡ greatest_high fixed.now }
+    ensures greatest { result ≡ greatest_high fixed.now }
+    ensures in_million { IfSome result (λ v. v ≤ℤ pos 1000000) }
 {
     let mut ceiling = None;
     for declared in fixed {

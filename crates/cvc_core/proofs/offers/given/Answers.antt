@@ -11,7 +11,7 @@ value_is c = c.gives-value.ensures ∙ ap (given c.args.circuit.now (device_at c
 
 pub voltage-requires : goal.voltage-requires
 voltage-requires c = given_between c.args.circuit.now (device_at c.args.circuit.now c.args.run.now.device.0) c.args.slot (held_reads c.args.circuit.now c.args.run.now)
-    c.gives-value.result c.floor.result c.ceiling.result c.floor.ensures c.ceiling.ensures (value_is c)
+    c.gives-value.result c.floor.result c.ceiling.result c.floor.ensures.floor c.ceiling.ensures.ceiling (value_is c)
 
 pub returns : goal.returns
 returns c = c.voltage.ensures ∙ value_is ((goal.at.returns c).After-ceiling)

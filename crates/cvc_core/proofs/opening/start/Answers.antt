@@ -13,7 +13,7 @@ made c = record { floor = c.floor.result; ceiling = c.ceiling.result; machine = 
 
 made_is : (c : After-from) → made c ≡ measured c.args.circuit.now (start c.args.circuit.now c.args.actors)
 made_is c = started c.args.circuit.now c.args.actors c.from.result c.floor.result c.ceiling.result c.in_ok-bounds.bounds.items (map mark_word c.in_ok-marks.marks.items) c.in_ok-actors.actors.items
-    c.floor.ensures c.ceiling.ensures c.in_ok-bounds.ensures (c.in_ok-marks.ensures ∙ ap (λ (n : ℕ). replicate {A = ℕ} n 1) c.devices.ensures.count) (c.from.ensures ∙ c.devices-2.ensures.count) c.in_ok-actors.ensures
+    c.floor.ensures.floor c.ceiling.ensures.ceiling c.in_ok-bounds.ensures (c.in_ok-marks.ensures ∙ ap (λ (n : ℕ). replicate {A = ℕ} n 1) c.devices.ensures.count) (c.from.ensures ∙ c.devices-2.ensures.count) c.in_ok-actors.ensures
 
 pub returns-clause-start : goal.returns-clause-start
 returns-clause-start c = made_is c
