@@ -1,8 +1,8 @@
 -- The list of waiting devices and their marks agree after a push and a pop.
-use Rattle.std.proofs.Common.{◌≡◌, ℕ, zero, suc, ◌+◌, ◌<◌, ◌≤◌, ◌==◌, Bool, true, false, cond, nat_lt, inl, inr, List, [], ◌∷◌, ◌++◌, length, set, replicate, arith, refl, sym, ap, ◌∙◌}
+use Rattle.std.proofs.Common.{◌≡◌, ℕ, zero, suc, ◌+◌, ◌<◌, ◌≤◌, ◌==◌, Bool, true, false, cond, inl, inr, List, [], ◌∷◌, ◌++◌, length, set, replicate, arith, refl, sym, ap, ◌∙◌}
 use Rattle.std.proofs.lemmas.Bool.{cases_order}
 use Rattle.std.proofs.lemmas.Bool.Decides.{nat_tests}
-use Rattle.std.proofs.lemmas.List.{get_or-set_other, get_or-set_same, get_or_past, length-set, length-replicate, get_or-replicate, length_push}
+use Rattle.std.proofs.lemmas.List.{get_or-set_other, get_or-set_same, get_or_past, length-set, length-replicate, length_push}
 use Rattle.std.proofs.lemmas.List.Sums.{sum_by-cons, sum_by_push, sum_by-set, count_by-le-length}
 use Rattle.cvc_base.specs.declared.ids.DevId.{DevId}
 use Rattle.cvc_law.proofs.ReachWidening.{dec_eq}
@@ -28,10 +28,10 @@ times-push q d i = sum_by_push (λ (e : DevId). one_if (e.0 == i)) q d
 pub count-set : (marks : List Bool) (i : ℕ) (b : Bool) → i < length marks → waiting_count (set marks i b) + one_if (waits marks i) ≡ waiting_count marks + one_if b
 count-set marks i b lt = sum_by-set one_if marks i b false lt
 
-pub count-replicate : (n : ℕ) → waiting_count (replicate n true) ≡ n
+pub count-replicate : (n : ℕ) → waiting_count (replicate n false) ≡ 0
 count-replicate zero = refl
-count-replicate (suc n) = let more : waiting_count (true ∷ replicate n true) ≡ 1 + waiting_count (replicate n true) = sum_by-cons one_if true (replicate n true) in
-    let rest : waiting_count (replicate n true) ≡ n = count-replicate n in omega arith
+count-replicate (suc n) = let more : waiting_count (false ∷ replicate n false) ≡ 0 + waiting_count (replicate n false) = sum_by-cons one_if false (replicate n false) in
+    let rest : waiting_count (replicate n false) ≡ 0 = count-replicate n in omega arith
 
 test_same : (x i : ℕ) → i ≡ x → one_if (x == i) ≡ 1
 test_same x i h = grind (arith, nat_tests)
@@ -96,21 +96,14 @@ queue_popped q room marks d h =
 pub queue_empty : (room : ℕ) (marks : List Bool) → IsQueue [] room marks → (i : ℕ) → waits marks i ≡ false
 queue_empty room marks h i = unmarked_if (waits marks i) (h.once i)
 
-pub waits-replicate : (n i : ℕ) → waits (replicate n true) i ≡ nat_lt i n
-waits-replicate n i = elim (cases_order i n) [
-  | inl same ↦ get_or_past (replicate n true) i false (omega (arith, length-replicate n true)) ∙ grind (arith, nat_tests)
-  | inr (inl less) ↦ get_or-replicate n i true false less ∙ grind (arith, nat_tests)
-  | inr (inr more) ↦ get_or_past (replicate n true) i false (omega (arith, length-replicate n true)) ∙ grind (arith, nat_tests)
-]
+pub waits-replicate : (n i : ℕ) → waits (replicate n false) i ≡ false
+waits-replicate zero i = refl
+waits-replicate (suc n) zero = refl
+waits-replicate (suc n) (suc i) = waits-replicate n i
 
-pub queue_full : (q : List DevId) (n : ℕ) → length q ≡ n → ((i : ℕ) → times_in q i ≡ one_if (nat_lt i n)) → IsQueue q n (replicate n true)
-queue_full q n h once = record {
-  enough_room = sym (length-replicate n true);
-  all_marked = h ∙ sym (count-replicate n);
-  once = λ i. once i ∙ sym (ap one_if (waits-replicate n i));
+pub queue_none : (q : List DevId) (room n : ℕ) → q ≡ [] → room ≡ n → IsQueue q room (replicate n false)
+queue_none q room n none all = record {
+  enough_room = all ∙ sym (length-replicate n false);
+  all_marked = ap length none ∙ sym (count-replicate n);
+  once = λ i. ap (λ (d : List DevId). times_in d i) none ∙ sym (ap one_if (waits-replicate n i));
 }
-
--- one more device in the list of all
-pub times_next : (q : List DevId) (n : ℕ) → ((i : ℕ) → times_in q i ≡ one_if (nat_lt i n)) → (i : ℕ) → times_in (q ++ record { 0 = n } ∷ []) i ≡ one_if (nat_lt i (n + 1))
-times_next q n h i = let more : times_in (q ++ record { 0 = n } ∷ []) i ≡ times_in q i + one_if (n == i) = times-push q record { 0 = n } i in let before : times_in q i ≡ one_if (nat_lt i n) = h i in
-    let step : one_if (nat_lt i n) + one_if (n == i) ≡ one_if (nat_lt i (n + 1)) = grind (arith, nat_tests) in omega arith

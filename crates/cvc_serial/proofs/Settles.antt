@@ -1,6 +1,7 @@
 -- Settling goes on from step to step: at the start, at a slot, at a device that is taken, and at the end, where nothing waits. Each step makes progress.
-use Rattle.std.proofs.Common.{◌≡◌, ℕ, ◌+◌, ◌-◌, ◌*◌, ◌/◌, ◌<◌, ◌≤◌, Bool, true, false, List, [], ◌∷◌, length, map, sum, replicate, inl, inr, arith, refl, sym, ap, ◌∙◌, subst}
-use Rattle.std.proofs.lemmas.List.{length-set, length-replicate, length-map, get_or-replicate, get_or-set_other}
+use Rattle.std.proofs.Common.{◌≡◌, ℕ, ◌+◌, ◌-◌, ◌*◌, ◌/◌, ◌<◌, ◌≤◌, ◌&&◌, ◌||◌, ◌==◌, Bool, true, false, List, [], ◌∷◌, length, map, sum, inl, inr, arith, refl, sym, ap, ◌∙◌, subst}
+use Rattle.std.proofs.lemmas.Bool.{cases_lt}
+use Rattle.std.proofs.lemmas.List.{length-set, length-map, get_or-set_other}
 use Rattle.std.proofs.lemmas.List.Sums.{sum_by-cons, count_by-le-length}
 use Rattle.std.proofs.Math.Nat.{mul-le-mul_right}
 use Rattle.std.proofs.Math.ListN.{get_or-map}
@@ -9,7 +10,7 @@ use Rattle.cvc_base.specs.declared.ids.DevId.{DevId}
 use Rattle.cvc_law.specs.declared.interval.Interval.{Interval}
 use Rattle.cvc_law.specs.declared.interval.Fixed.{Fixed}
 use Rattle.cvc_law.specs.declared.device.Device.{Device}
-use Rattle.cvc_law.specs.Network.{Network, nets, devices, fixed_at, is_declared, touches, fan_of, IsCircuit}
+use Rattle.cvc_law.specs.Network.{Network, nets, devices, fixed_at, is_declared, end_a, end_b, gate, is_mos, conducts, touches, fan_of, IsCircuit}
 use Rattle.cvc_law.specs.Conduction.{target}
 use Rattle.cvc_law.specs.Family.{IsInRange, IsFamily}
 use Rattle.cvc_law.specs.Least.{reads_of, IsSlotClosed, IsLeast}
@@ -24,7 +25,7 @@ use Rattle.cvc_law.proofs.ReachWidening.{dec_eq, set_within, closed_apart, total
 use Rattle.cvc_serial.specs.declared.widen.Widening.{Widening}
 use Rattle.cvc_serial.specs.Queue.{waits, waiting_count, IsPushed}
 use Rattle.cvc_serial.specs.Widening.{IsWidening}
-use Rattle.cvc_serial.specs.Settling.{IsTried, IsSettling, reach, IsProgress}
+use Rattle.cvc_serial.specs.Settling.{IsTried, AreConductingWaiting, IsSettling, reach, IsProgress}
 use Rattle.cvc_serial.proofs.Queues.{waits_within, count-set, one_if}
 use Rattle.cvc_serial.proofs.Widens.{Widens, widens, widened_by, tried_from_closed}
 
@@ -156,14 +157,26 @@ family_opened c circuit = record {
   high_in_range = λ n. subst (λ (j : Interval). IfSome j.high (IsInRange c)) (sym (get_or-map declared_interval c.fixed n None)) (known_high c (fixed_at c n) (declared_in_range c circuit n));
 }
 
--- at the start all devices wait
-pub settling_start : (c : Network) (f : List Interval) → IsCircuit c.fixed c.devices → f ≡ map declared_interval c.fixed → IsSettling c f (replicate (devices c) true) 0 4
-settling_start c f circuit is = record {
+-- a device that hands no voltage on has nothing to try
+idle_tried : (c : Network) (f : List Interval) (d : Device) (k : ℕ) → conducts d.kind ≡ false → IsTried c f d k
+idle_tried c f d k idle free = elim (cases_lt 0 (gives c d k (reach_reads (reaches c f) d))) [
+  | inl some ↦ absurd (let reads_it : touches (target d k) d ≡ true = touches_given c d k (reach_reads (reaches c f) d) some in
+      let off : touches (target d k) d ≡ false = ap (λ (b : Bool). b && ((end_a d == target d k) || (end_b d == target d k) || (is_mos d.kind && (gate d == target d k)))) idle in let no : true ≡ false = sym reads_it ∙ off in cc)
+  | inr none ↦ omega arith
+]
+
+not_waiting_idle : (b w : Bool) → (b ≡ true → w ≡ true) → w ≡ false → b ≡ false
+not_waiting_idle true w h off = let no : true ≡ false = sym (h refl) ∙ off in absurd (cc)
+not_waiting_idle false w h off = refl
+
+-- at the start all devices wait that can hand a voltage on
+pub settling_start : (c : Network) (f : List Interval) (marks : List Bool) → IsCircuit c.fixed c.devices → f ≡ map declared_interval c.fixed → AreConductingWaiting c marks → IsSettling c f marks 0 4
+settling_start c f marks circuit is starts = record {
   circuit = circuit;
   family = subst (IsFamily c) (sym is) (family_opened c circuit);
   within = λ g other closed. subst (λ (x : List Interval). IsReachWithin (reaches c x) g) (sym is) (opening_within c g other);
-  every_device = length-replicate (devices c) true;
-  closed = λ j m within four free below. absurd (let waiting : waits (replicate (devices c) true) j ≡ true = get_or-replicate (devices c) j true false within in let no : true ≡ false = sym waiting ∙ free in cc);
+  every_device = starts.every_device;
+  closed = λ j m within four free below. idle_tried c f (device_at c j) m (not_waiting_idle (conducts (device_at c j).kind) (waits marks j) (starts.waiting j within) free);
 }
 
 -- where nothing waits, the bounds are the least family

@@ -1,8 +1,8 @@
 //! The bounds found so far, and the devices still to try.
 ghost use Rattle.std.specs.Prelude.{◌≡◌, ◌<◌, ◌+◌, IfOk, map};
-ghost use Rattle.cvc_law.specs.Network.{nets, devices, fixed_at};
+ghost use Rattle.cvc_law.specs.Network.{nets, devices, fixed_at, IsCircuit};
 ghost use Rattle.cvc_law.specs.Reach.{declared_interval};
-ghost use Rattle.cvc_serial.specs.Settling.{IsSettling, IsProgress};
+ghost use Rattle.cvc_serial.specs.Settling.{AreConductingWaiting, IsSettling, IsProgress};
 
 use crate::waiting::{Waiting, push_all};
 use crate::widen::widening_of;
@@ -49,13 +49,27 @@ fn opening(alloc: Global, circuit: &Circuit) -> Result<Vec<Interval>, NoMemory>
     Ok(bounds)
 }
 
+/// Every device that can hand a voltage on, in order.
+fn conducting(alloc: Global, circuit: &Circuit) -> Result<Waiting, NoMemory>
+    ensures waiting { IfOk result (AreConductingWaiting circuit.now) }
+    ensures circuit { IsCircuit circuit.now.fixed circuit.now.devices }
+{
+    let mut waiting = Waiting::none(alloc, circuit.devices())?;
+    for d in 0..circuit.devices() {
+        if circuit.device(DevId(d)).conducts() {
+            waiting.push(DevId(d));
+        }
+    }
+    Ok(waiting)
+}
+
 impl Engine {
-    /// The bounds as declared, and every device waiting. It takes all its memory here.
+    /// The bounds as declared, and every device waiting that can hand a voltage on. It takes all its memory here.
     pub(crate) fn new(alloc: Global, circuit: &Circuit) -> Result<Engine, NoMemory>
         ensures { IfOk result (λ e. IsSettling circuit.now e.bounds.items e.waiting 0 4) }
     {
         let bounds = opening(alloc, circuit)?;
-        let waiting = Waiting::all(alloc, circuit.devices())?;
+        let waiting = conducting(alloc, circuit)?;
         Ok(Engine { bounds, waiting })
     }
 

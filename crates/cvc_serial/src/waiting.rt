@@ -28,15 +28,12 @@ impl Model for Waiting {
 }
 
 impl Waiting {
-    /// All of this many devices, in order.
-    pub(crate) fn all(alloc: Global, count: u32) -> Result<Waiting, NoMemory>
-        ensures { IfOk result (λ w. w ≡ replicate count true) }
+    /// None of this many devices. It has room for all of them.
+    pub(crate) fn none(alloc: Global, count: u32) -> Result<Waiting, NoMemory>
+        ensures { IfOk result (λ w. w ≡ replicate count false) }
     {
-        let is_waiting = vec![in alloc; true; count as usize]?;
-        let mut devices = VecDeque::with_capacity(alloc, count as usize)?;
-        for d in 0..count {
-            devices.push_back_reserved(DevId(d));
-        }
+        let is_waiting = vec![in alloc; false; count as usize]?;
+        let devices = VecDeque::with_capacity(alloc, count as usize)?;
         Ok(Waiting {
             devices,
             is_waiting,
