@@ -1,3 +1,4 @@
+pub mod Keys
 pub mod Verdicts
 pub mod Whole
 pub mod Places

@@ -1,6 +1,6 @@
 //! Whole model files.
 ghost use Rattle.std.specs.Prelude.{◌≡◌, Ok, Err, IfOk, map};
-ghost use Rattle.cvc_model.specs.Drafts.{IfCause};
+ghost use Rattle.cvc_model.specs.Drafting.{IfCause};
 ghost use Rattle.cvc_model.specs.Rows.{row_of};
 ghost use Rattle.cvc_model.specs.Models.{IfAt, models_of, refusal_of, rows_or_fault, verdict};
 
