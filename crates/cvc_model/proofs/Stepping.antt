@@ -1,5 +1,5 @@
 -- One test more, and one item more, of those that are left.
-use Rattle.std.proofs.Common.{◌≡◌, ℕ, suc, ◌+◌, ◌<◌, ◌≤◌, List, [], ◌∷◌, map, length, get_or, drop, Result, Ok, sym, ap, subst, ◌∙◌, add-one, drop-cons, drop_of_length-le}
+use Rattle.std.proofs.Common.{◌≡◌, ℕ, suc, ◌+◌, ◌<◌, ◌≤◌, List, [], ◌∷◌, map, length, get_or, drop, Result, Ok, Err, refl, sym, ap, subst, ◌∙◌, add-one, drop-cons, drop_of_length-le}
 use Rattle.cvc_base.specs.declared.cause.Cause.{Cause}
 use Rattle.cvc_base.specs.declared.device.Kind.{Kind}
 use Rattle.cvc_base.specs.declared.line.Token.{Token}
@@ -11,8 +11,9 @@ use Rattle.cvc_model.specs.declared.row.Test.{Test}
 use Rattle.cvc_model.specs.declared.stop.Stop.{Stop}
 use Rattle.cvc_model.specs.declared.stop.Stop.TheVariants.{At, NoMemory}
 use Rattle.cvc_model.specs.Chosen.{outcome_of, outcome_of_test, while_holds}
-use Rattle.cvc_model.specs.Drafts.{AtCause, step, steps, then_with}
-use Rattle.cvc_model.specs.Items.{text_of}
+use Rattle.cvc_model.specs.Settings.{then_with}
+use Rattle.cvc_model.specs.Rows.{Content, text_of, with_text, with_texts}
+use Rattle.cvc_model.specs.Drafting.{AtCause, IsDraft, KeepsDraft}
 
 drop_read : {A : Type 0} (xs : List A) (i : ℕ) (x : A) → i < length xs → x ≡ get_or xs i x → drop i xs ≡ x ∷ drop (i + 1) xs
 drop_read xs i x within at = drop-cons xs i x within ∙ ap (λ y. y ∷ drop (suc i) xs) (sym at) ∙ ap (λ n. x ∷ drop n xs) (sym (add-one i))
@@ -33,15 +34,20 @@ pub AtCause-weaker : (stop : Stop) (P Q : Cause → Type 0) → ((cause : Cause)
 AtCause-weaker (At cause) P Q f h = f cause h
 AtCause-weaker NoMemory P Q f h = tt
 
-module _ (kind : Kind) (items : List Token) (answer : Result Draft Cause) (draft : Draft) (i : ℕ) (so_far : answer ≡ steps kind draft (map text_of (drop i items))) where
-  pub one_item : (item : Token) → i < length items → item ≡ get_or items i item → (text : List ℕ) → text ≡ item.text → (r : Result Draft Cause) → step kind draft text ≡ r
-      → answer ≡ then_with r (λ next. steps kind next (map text_of (drop (i + 1) items)))
-  unfolding steps
-  one_item item within at text same r e =
-      so_far ∙ ap (λ ts. steps kind draft (map text_of ts)) (drop_read items i item within at)
-      ∙ ap (λ t. then_with (step kind draft t) (λ next. steps kind next (map text_of (drop (i + 1) items)))) (sym same)
-      ∙ ap (λ s. then_with s (λ next. steps kind next (map text_of (drop (i + 1) items)))) e
+-- the draft of an answer, which stands for its content
+pub of_draft : (draft : Draft) (answer : Result Content Cause) → KeepsDraft (Ok draft) answer → (content : Content) × ((answer ≡ Ok content) × IsDraft draft content)
+of_draft draft (Ok content) h = (content, (refl, h))
+of_draft draft (Err cause) h = absurd h
 
-  pub no_item : length items ≤ i → answer ≡ Ok draft
-  unfolding steps
-  no_item past = so_far ∙ ap (λ ts. steps kind draft (map text_of ts)) (drop_of_length-le _ past)
+module _ (kind : Kind) (items : List Token) (answer : Result Content Cause) (content : Content) (i : ℕ) (so_far : answer ≡ with_texts kind content (map text_of (drop i items))) where
+  pub one_item : (item : Token) → i < length items → item ≡ get_or items i item → (text : List ℕ) → text ≡ item.text → (r : Result Content Cause) → with_text kind content text ≡ r
+      → answer ≡ then_with r (λ next. with_texts kind next (map text_of (drop (i + 1) items)))
+  unfolding with_texts
+  one_item item within at text same r e =
+      so_far ∙ ap (λ ts. with_texts kind content (map text_of ts)) (drop_read items i item within at)
+      ∙ ap (λ t. then_with (with_text kind content t) (λ next. with_texts kind next (map text_of (drop (i + 1) items)))) (sym same)
+      ∙ ap (λ s. then_with s (λ next. with_texts kind next (map text_of (drop (i + 1) items)))) e
+
+  pub no_item : length items ≤ i → answer ≡ Ok content
+  unfolding with_texts
+  no_item past = so_far ∙ ap (λ ts. with_texts kind content (map text_of ts)) (drop_of_length-le _ past)

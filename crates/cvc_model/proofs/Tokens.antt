@@ -7,11 +7,10 @@ use Rattle.cvc_base.specs.declared.device.Kind.{Kind}
 use Rattle.cvc_base.specs.declared.device.Volts.{Volts}
 use Rattle.cvc_base.specs.declared.line.Line.{Line}
 use Rattle.cvc_base.specs.declared.line.Token.{Token}
-use Rattle.cvc_model.specs.declared.draft.Draft.{Draft}
+use Rattle.cvc_model.specs.declared.row.Test.{Test}
 use Rattle.cvc_model.specs.Words.{kind_of}
-use Rattle.cvc_model.specs.Items.{text_of}
-use Rattle.cvc_model.specs.Drafts.{no_draft, steps, then_with}
-use Rattle.cvc_model.specs.Rows.{row_from, row_in, row_of, row_with, volts_of}
+use Rattle.cvc_model.specs.Settings.{then_with}
+use Rattle.cvc_model.specs.Rows.{Content, no_content, row_from, row_in, row_of, row_with, text_of, volts_of, with_texts}
 
 pub two_or_more : (number : ℕ) (ts : List Token) (name word : Token) → 2 ≤ length ts → name ≡ get_or ts 0 name → word ≡ get_or ts 1 word
     → row_in number (map text_of ts) ≡ row_with number name.text (kind_of word.text) (map text_of (drop 2 ts))
@@ -45,20 +44,20 @@ module _ (line : Line) (ts : List Token) (same : ts ≡ line.tokens) where
     unknown e = as_read ∙ ap (λ k. row_with line.first name.text k (map text_of items)) e
 
     module _ (kind : Kind) (of_kind : kind_of w ≡ Some kind) where
-      with_items : row_of line ≡ then_with (steps kind no_draft (map text_of items)) (row_from line.first name.text kind)
+      with_items : row_of line ≡ then_with (with_texts kind no_content (map text_of items)) (row_from line.first name.text kind)
       with_items = as_read ∙ ap (λ k. row_with line.first name.text k (map text_of items)) of_kind
 
-      pub bad_item : (cause : Cause) → steps kind no_draft (map text_of items) ≡ Err cause → row_of line ≡ Err cause
-      bad_item cause e = with_items ∙ ap (λ d. then_with d (row_from line.first name.text kind)) e
+      pub bad_item : (cause : Cause) → with_texts kind no_content (map text_of items) ≡ Err cause → row_of line ≡ Err cause
+      bad_item cause e = with_items ∙ ap (λ r. then_with r (row_from line.first name.text kind)) e
 
-      module _ (draft : Draft) (drafted : steps kind no_draft (map text_of items) ≡ Ok draft) where
-        with_draft : row_of line ≡ row_from line.first name.text kind draft
-        with_draft = with_items ∙ ap (λ d. then_with d (row_from line.first name.text kind)) drafted
+      module _ (content : Content) (said : with_texts kind no_content (map text_of items) ≡ Ok content) where
+        with_content : row_of line ≡ row_from line.first name.text kind content
+        with_content = with_items ∙ ap (λ r. then_with r (row_from line.first name.text kind)) said
 
-        pub bad_volts : (cause : Cause) → volts_of kind draft.voltages ≡ Err cause → row_of line ≡ Err cause
-        bad_volts cause e = with_draft ∙ ap (λ v. then_with v (λ volts. Ok (record { name = name.text; kind = kind; volts = volts; tests = draft.tests; line = line.first }))) e
+        pub bad_volts : (cause : Cause) → volts_of kind content.settings ≡ Err cause → row_of line ≡ Err cause
+        bad_volts cause e = with_content ∙ ap (λ v. then_with v (λ volts. Ok (record { name = name.text; kind = kind; volts = volts; tests = content.tests; line = line.first }))) e
 
-        pub the_row : (volts : Volts) → volts_of kind draft.voltages ≡ Ok volts → (n : List ℕ) → n ≡ name.text
-            → row_of line ≡ Ok (record { name = n; kind = kind; volts = volts; tests = draft.tests; line = line.first })
-        the_row volts e n f = with_draft ∙ ap (λ v. then_with v (λ volts. Ok (record { name = name.text; kind = kind; volts = volts; tests = draft.tests; line = line.first }))) e
-            ∙ ap (λ t. Ok (record { name = t; kind = kind; volts = volts; tests = draft.tests; line = line.first })) (sym f)
+        pub the_row : (volts : Volts) → volts_of kind content.settings ≡ Ok volts → (n : List ℕ) → n ≡ name.text
+            → (ts : List Test) → ts ≡ content.tests → row_of line ≡ Ok (record { name = n; kind = kind; volts = volts; tests = ts; line = line.first })
+        the_row volts e n f ts g = with_content ∙ ap (λ v. then_with v (λ volts. Ok (record { name = name.text; kind = kind; volts = volts; tests = content.tests; line = line.first }))) e
+            ∙ (let p = sym f in let q = sym g in λ i. Ok (record { name = p i; kind = kind; volts = volts; tests = q i; line = line.first }))

@@ -9,7 +9,7 @@ use Rattle.cvc_model.specs.declared.row.ModelRow.{ModelRow}
 use Rattle.cvc_lex.specs.Lines.{fault_on}
 use Rattle.cvc_model.specs.declared.stop.Stop.{Stop}
 use Rattle.cvc_model.specs.declared.stop.Stop.TheVariants.{At as StopsAt, NoMemory as OutOfMemory}
-use Rattle.cvc_model.specs.Drafts.{AtCause}
+use Rattle.cvc_model.specs.Drafting.{AtCause}
 use Rattle.cvc_model.specs.Rows.{row_of}
 use Rattle.cvc_model.specs.Models.{at_line, verdict, rows_or_fault, in_front, AtFault, refusal_of}
 

@@ -1,8 +1,9 @@
 pub mod Words
-pub mod Keys
 pub mod Items
-pub mod Drafts
+pub mod Settings
 pub mod Rows
 pub mod Models
+pub mod Bindable
 pub mod Chosen
+pub mod Drafting
 pub mod Indexed

@@ -1,11 +1,8 @@
--- The kinds of models by their words, without regard to case, and texts that are voltages.
-use Rattle.std.specs.Prelude.{ℕ, List, [], ◌∷◌, Option, find, Result, Ok, Err, ℤ, codes}
+-- The kinds of models by their words, without regard to case.
+use Rattle.std.specs.Prelude.{ℕ, List, [], ◌∷◌, Option, find, codes}
 use Rattle.std.specs.Str.{str_eq_ignore_ascii_case}
-use Rattle.cvc_base.specs.declared.cause.Cause.{Cause}
-use Rattle.cvc_base.specs.declared.cause.Cause.TheVariants.{BadVoltage}
 use Rattle.cvc_base.specs.declared.device.Kind.{Kind}
 use Rattle.cvc_base.specs.declared.device.Kind.TheVariants.{Nmos, Pmos, Resistor, Diode, Capacitor, Inductor, Bipolar}
-use Rattle.cvc_units.specs.declared.fault.NumFault.{NumFault}
 
 abbrev pub word_of_kind : Kind → List ℕ
 word_of_kind Nmos = codes "nmos"
@@ -22,8 +19,3 @@ kinds = Nmos ∷ Pmos ∷ Resistor ∷ Diode ∷ Capacitor ∷ Inductor ∷ Bipo
 -- the kind that a word names
 abbrev pub kind_of : List ℕ → Option Kind
 kind_of text = find (λ kind. str_eq_ignore_ascii_case text (word_of_kind kind)) kinds
-
--- a text that is no voltage is BadVoltage, whatever it lacks
-abbrev pub voltage_from : Result ℤ NumFault → Result ℤ Cause
-voltage_from (Ok v) = Ok v
-voltage_from (Err e) = Err BadVoltage

@@ -1,14 +1,15 @@
 //! A row while its items are read, from the left.
-ghost use Rattle.std.specs.Prelude.{◌≡◌, [], IfOk, map, true, false};
+ghost use Rattle.std.specs.Prelude.{◌≡◌, List, map, true, false};
 ghost use Rattle.cvc_units.specs.Number.{number_of};
-ghost use Rattle.cvc_model.specs.Items.{text_of};
-ghost use Rattle.cvc_model.specs.Drafts.{IfCause, is_threshold as threshold_key, at_voltage, keyed, no_draft, step, steps, tested, voltage_step};
+ghost use Rattle.cvc_model.specs.Settings.{Setting, voltages_under as values_under, with_setting};
+ghost use Rattle.cvc_model.specs.Rows.{Content, no_content, text_of, with_settings, with_test, with_text, with_texts};
+ghost use Rattle.cvc_model.specs.Drafting.{AreVoltages, IsDraft, KeepsContent, KeepsDraft, KeepsSettings, word_of_key};
 
 use crate::item::{Sign, split_item};
 use crate::key::{Key, Voltages, key_of};
 use crate::row::{Test, Tests};
 use crate::stop::Stop;
-use crate::words::voltage;
+use crate::value::{limit, thresholds};
 use cvc_base::{Cause, Kind, Mv, Text, Token};
 use cvc_units::read_number;
 use std::alloc::Global;
@@ -20,46 +21,39 @@ pub(crate) struct Draft {
     pub(crate) tests: Tests,
 }
 
-fn is_threshold(key: Key) -> bool
-    ensures { result ≡ threshold_key key }
+// The voltages that a value gives a key.
+fn voltages_under(key: Key, value: &[u8]) -> Result<(Mv, Mv), Cause>
+    ensures { result ≡ values_under (word_of_key key) value.now }
 {
-    matches!(key, Key::Vth)
-}
-
-// The voltage of a key: only a threshold may be below 0.
-fn voltage_under(key: Key, text: &[u8]) -> Result<Mv, Cause>
-    ensures { result ≡ at_voltage key text.now }
-{
-    let voltage = voltage(text)?;
-    if voltage.get() < 0 && !is_threshold(key) {
-        return Err(Cause::Negative);
+    if matches!(key, Key::Vth) {
+        return thresholds(value);
     }
-    Ok(voltage)
+    let voltage = limit(value)?;
+    Ok((voltage, voltage))
 }
 
-// The voltages with the one of this item.
-#[tactic(auto, unfolding(crate::specs::Drafts::keyed))]
-fn with_item(kind: Kind, given: Voltages, key: &[u8], text: &[u8]) -> Result<Voltages, Cause>
-    ensures { result ≡ keyed kind given key.now text.now }
+// The voltages with those of this item.
+#[tactic(auto, unfolding(crate::specs::Settings::with_setting))]
+fn with_item(kind: Kind, given: Voltages, key: &[u8], value: &[u8]) -> Result<Voltages, Cause>
+    ensures { (settings : List Setting) → AreVoltages given settings → KeepsSettings result (with_setting kind settings key.now value.now) }
 {
     let Some(key) = key_of(kind, key) else {
         return Err(Cause::UnknownKey);
     };
-    if given.get(key).is_some() {
+    if given.has(key) {
         return Err(Cause::BadRow);
     }
-    let voltage = voltage_under(key, text)?;
+    let voltages = voltages_under(key, value)?;
     let mut with = given;
-    with.set(key, voltage);
+    with.set(key, voltages);
     Ok(with)
 }
 
 impl Draft {
-    fn add_voltage(&mut self, kind: Kind, key: &[u8], text: &[u8]) -> Result<(), Stop>
-        ensures added { IfOk result (λ _. voltage_step kind self.old key.now text.now ≡ Ok self.new) }
-        ensures fault { IfCause result (λ cause. voltage_step kind self.old key.now text.now ≡ Err cause) }
+    fn add_voltages(&mut self, kind: Kind, key: &[u8], value: &[u8]) -> Result<(), Stop>
+        ensures { (content : Content) → IsDraft self.old content → KeepsContent self.new result (with_settings content (with_setting kind content.settings key.now value.now)) }
     {
-        match with_item(kind, self.voltages, key, text) {
+        match with_item(kind, self.voltages, key, value) {
             Ok(voltages) => {
                 self.voltages = voltages;
                 Ok(())
@@ -75,8 +69,7 @@ impl Draft {
         less: bool,
         number: &[u8],
     ) -> Result<(), Stop>
-        ensures added { IfOk result (λ _. tested self.old param.now less (number_of number.now) ≡ Ok self.new) }
-        ensures fault { IfCause result (λ cause. tested self.old param.now less (number_of number.now) ≡ Err cause) }
+        ensures { (content : Content) → IsDraft self.old content → KeepsContent self.new result (with_test content param.now less (number_of number.now)) }
     {
         let Ok(number) = read_number(number) else {
             return Err(Stop::At(Cause::BadRow));
@@ -90,16 +83,15 @@ impl Draft {
         Ok(())
     }
 
-    #[tactic(auto, unfolding(crate::specs::Drafts::step))]
+    #[tactic(auto, unfolding(crate::specs::Rows::with_text))]
     fn add_item(&mut self, alloc: Global, kind: Kind, text: &[u8]) -> Result<(), Stop>
-        ensures added { IfOk result (λ _. step kind self.old text.now ≡ Ok self.new) }
-        ensures fault { IfCause result (λ cause. step kind self.old text.now ≡ Err cause) }
+        ensures { (content : Content) → IsDraft self.old content → KeepsContent self.new result (with_text kind content text.now) }
     {
         let Some(item) = split_item(text) else {
             return Err(Stop::At(Cause::BadRow));
         };
         match item.sign {
-            Sign::Equals => self.add_voltage(kind, item.left, item.right),
+            Sign::Equals => self.add_voltages(kind, item.left, item.right),
             Sign::Less => self.add_test(alloc, item.left, true, item.right),
             Sign::AtLeast => self.add_test(alloc, item.left, false, item.right),
         }
@@ -108,8 +100,7 @@ impl Draft {
 
 // What these items give together.
 pub(crate) fn read_items(alloc: Global, kind: Kind, items: &[Token]) -> Result<Draft, Stop>
-    ensures draft { IfOk result (λ draft. steps kind no_draft (map text_of items.now) ≡ Ok draft) }
-    ensures fault { IfCause result (λ cause. steps kind no_draft (map text_of items.now) ≡ Err cause) }
+    ensures { KeepsDraft result (with_texts kind no_content (map text_of items.now)) }
 {
     let mut draft = Draft {
         voltages: Voltages::none(),

@@ -1,7 +1,8 @@
 //! An item of a model row, by its first sign.
 ghost use Rattle.std.specs.Prelude.{◌≡◌, ◌≤◌, length, not, option_map};
 ghost use Rattle.std.specs.List.{prefix_len};
-ghost use Rattle.cvc_model.specs.Items.{is_sign as sign_of, is_plain, parts_of, parts_if_any, parts_in};
+ghost use Rattle.cvc_model.specs.Items.{is_sign as sign_of, is_plain, item_in, of_sides as sides_of};
+ghost use Rattle.cvc_model.specs.Drafting.{item_of, item_with};
 
 /// What an item says: a voltage of a key, or what a parameter is less than, or at least.
 #[derive(Clone, Copy, Debug, PartialEq, Eq)]
@@ -40,7 +41,7 @@ fn left_len(text: &[u8]) -> usize
 
 // The item of these sides, unless one is empty.
 fn of_sides<'a>(left: &'a [u8], sign: Sign, right: &'a [u8]) -> Option<Item<'a>>
-    ensures { option_map parts_of result ≡ parts_if_any left.now sign right.now }
+    ensures { option_map item_of result ≡ sides_of (item_with sign) left.now right.now }
 {
     if left.is_empty() || right.is_empty() {
         return None;
@@ -49,9 +50,9 @@ fn of_sides<'a>(left: &'a [u8], sign: Sign, right: &'a [u8]) -> Option<Item<'a>>
 }
 
 // The item that a text is, if it is one.
-#[tactic(auto, unfolding(crate::specs::Items::parts_in))]
+#[tactic(auto, unfolding(crate::specs::Items::item_in))]
 pub(crate) fn split_item(text: &[u8]) -> Option<Item<'_>>
-    ensures { option_map parts_of result ≡ parts_in text.now }
+    ensures { option_map item_of result ≡ item_in text.now }
 {
     let place = left_len(text);
     let left = &text[..place];

@@ -13,6 +13,7 @@ mod models;
 mod reading;
 mod row;
 mod stop;
+mod value;
 mod words;
 
 pub use models::{Choice, Models};

@@ -1,7 +1,8 @@
 //! Whole model files.
 ghost use Rattle.std.specs.Prelude.{◌≡◌, Ok, Err, IfOk, map};
-ghost use Rattle.cvc_model.specs.Drafts.{IfCause};
+ghost use Rattle.cvc_model.specs.Drafting.{IfCause};
 ghost use Rattle.cvc_model.specs.Rows.{row_of};
+ghost use Rattle.cvc_model.specs.Bindable.{AreBindable};
 ghost use Rattle.cvc_model.specs.Models.{IfAt, models_of, refusal_of, rows_or_fault, verdict};
 
 use crate::draft::read_items;
@@ -78,6 +79,9 @@ fn read_rows(alloc: Global, lexer: &mut Lexer) -> Result<ItemList<ModelRow>, Ref
 pub fn read_models(alloc: Global, bytes: &[u8]) -> Result<Models, Refusal>
     ensures rows { IfOk result (λ models. models_of bytes.now ≡ Ok models) }
     ensures fault { IfAt result (λ fault. models_of bytes.now ≡ Err fault) }
+
+    // What binding asks of the rows.
+    ensures bindable { IfOk result AreBindable }
 {
     let Ok(mut lexer) = Lexer::new(alloc, FileKind::Models) else {
         return Err(Refusal::NoMemory);

@@ -1,6 +1,8 @@
 //! The rows of a model file.
-ghost use Rattle.std.specs.Prelude.{◌≡◌, pos, unwrap_or};
-ghost use Rattle.cvc_model.specs.Rows.{magnitude_of, threshold_of, volts_of as volts_in};
+ghost use Rattle.std.specs.Prelude.{◌≡◌, List, pos, unwrap_or};
+ghost use Rattle.cvc_model.specs.Settings.{Setting};
+ghost use Rattle.cvc_model.specs.Rows.{corners_of, in_order as ordered, magnitude_of, volts_of as volts_in};
+ghost use Rattle.cvc_model.specs.Drafting.{AreVoltages};
 
 use crate::key::Voltages;
 use cvc_base::{Cause, ItemList, Kind, Mv, Text, Volts};
@@ -48,28 +50,38 @@ fn or_zero(voltage: Option<Mv>) -> Mv
     }
 }
 
-// The threshold of a row; `None` where a kind that needs one lacks it.
-fn threshold(kind: Kind, vth: Option<Mv>) -> Option<Mv>
-    ensures { result ≡ threshold_of kind vth }
+fn in_order(first: Mv, second: Mv) -> (Mv, Mv)
+    ensures { result ≡ ordered first second }
+{
+    if second.get() < first.get() {
+        (second, first)
+    } else {
+        (first, second)
+    }
+}
+
+// The thresholds of the corner that conducts most and of the one that conducts least; `None` where a kind that needs them lacks them.
+fn corners(kind: Kind, vth: Option<(Mv, Mv)>) -> Option<(Mv, Mv)>
+    ensures { result ≡ corners_of kind vth }
 {
     match (kind, vth) {
-        (Kind::Nmos, _) => vth,
-        (Kind::Pmos, Some(voltage)) => Some(magnitude(voltage)),
-        (Kind::Pmos, None) => None,
-        _ => Some(zero()),
+        (Kind::Nmos, Some((first, second))) => Some(in_order(first, second)),
+        (Kind::Pmos, Some((first, second))) => Some(in_order(magnitude(first), magnitude(second))),
+        (Kind::Nmos | Kind::Pmos, None) => None,
+        _ => Some((zero(), zero())),
     }
 }
 
 // The voltages of a row of this kind.
 pub(crate) fn volts_of(kind: Kind, given: &Voltages) -> Result<Volts, Cause>
-    ensures { result ≡ volts_in kind given.now }
+    ensures { (settings : List Setting) → AreVoltages given.now settings → result ≡ volts_in kind settings }
 {
-    let Some(threshold) = threshold(kind, given.vth) else {
+    let Some((threshold, weak)) = corners(kind, given.vth) else {
         return Err(Cause::MissingVth);
     };
     Ok(Volts {
         threshold,
-        weak: threshold,
+        weak,
         drop: or_zero(given.vf),
         junction: or_zero(given.vj),
         vgs: given.vgs,

@@ -41,8 +41,17 @@ bad-voltage n nmos Vth=1 Vgs=x
 bad-voltage n nmos Vth=1 Vgs=-0.0005
 negative n nmos Vth=1 Vgs=-1
 negative n nmos Vth=1 Vj=-1m
-bad-voltage n nmos Vth=1:2
+# Two voltages of a threshold, split at the first `:`; elsewhere a `:` is part of the text.
+bad-voltage nch nmos Vth=0.4:
+bad-voltage nch nmos Vth=0.4 Vj=0:1
+bad-voltage n nmos Vth=:0.4
+bad-voltage n nmos Vth=:
+bad-voltage n nmos Vth=1:2:3
+bad-voltage n pmos Vth=-0.5:0.0005
 bad-voltage n nmos Vgs=-1:2
+bad-voltage d diode Vf=0:1
+unknown-key d diode Vth=1:2
+bad-row n nmos Vth=1:2 vTH=x
 # Items from the left, and a missing threshold after all.
 negative n nmos Vgs=-1 Vth
 bad-row n nmos Vth Vgs=-1
@@ -111,6 +120,7 @@ fn limits_are(volts: &Volts, limits: [Option<i64>; 6]) -> bool {
 
 fn volts_are(volts: &Volts, threshold: i64, drop: i64, junction: i64) -> bool {
     volts.threshold.get() == threshold
+        && volts.weak.get() == threshold
         && volts.drop.get() == drop
         && volts.junction.get() == junction
 }
@@ -144,6 +154,29 @@ fn voltages_of_rows(rt: HostRuntime) -> Result<(), Fail> {
         assert!(rt; row.kind == kind && row.line == line, "{name}");
         assert!(rt; volts_are(&row.volts, threshold, drop, junction), "{name}");
         assert!(rt; limits_are(&row.volts, limits), "{name}");
+    }
+    Ok(())
+}
+
+#[test]
+fn corners_of_a_threshold(rt: HostRuntime) -> Result<(), Fail> {
+    for (file, threshold, weak) in [
+        ("nhv nmos Vth=0.8:0.6", 600, 800),
+        ("nhv nmos Vth=0.6:0.8", 600, 800),
+        ("n nmos Vth=0.3:-0.4", -400, 300),
+        ("n nmos Vth=0.4:400m", 400, 400),
+        ("phv pmos Vth=-0.5:-2.5", 500, 2500),
+        ("phv pmos vth=-1.5:-0.5 Vj=0.7", 500, 1500),
+        ("p pmos Vth=0.5:-0.3", 300, 500),
+        ("p pmos Vth=-0.4", 400, 400),
+    ] {
+        let models = models_of(rt.alloc(), file)?;
+        assert_eq!(rt; models.len(), 1);
+        let volts = &models.get(0).volts;
+        assert!(rt;
+            volts.threshold.get() == threshold && volts.weak.get() == weak,
+            "{file}"
+        );
     }
     Ok(())
 }

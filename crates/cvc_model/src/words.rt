@@ -1,11 +1,9 @@
-//! Words without regard to case, and voltages.
+//! Words without regard to case.
 ghost use Rattle.std.specs.Prelude.{◌≡◌, find};
 ghost use Rattle.std.specs.Str.{str_eq_ignore_ascii_case};
-ghost use Rattle.cvc_units.specs.Number.{millivolts_of};
-ghost use Rattle.cvc_model.specs.Words.{word_of_kind, kinds, kind_of as kind_in, voltage_from};
+ghost use Rattle.cvc_model.specs.Words.{word_of_kind, kinds, kind_of as kind_in};
 
-use cvc_base::{Cause, Kind, Mv};
-use cvc_units::read_mv;
+use cvc_base::Kind;
 
 const KINDS: [Kind; 7] = [
     Kind::Nmos,
@@ -46,13 +44,4 @@ pub(crate) fn kind_of(text: &[u8]) -> Option<Kind>
         .iter()
         .copied()
         .find(|kind| is_word(text, kind_word(*kind)))
-}
-
-pub(crate) fn voltage(text: &[u8]) -> Result<Mv, Cause>
-    ensures { result ≡ voltage_from (millivolts_of text.now) }
-{
-    match read_mv(text) {
-        Ok(millivolts) => Mv::new(millivolts).ok_or(Cause::BadVoltage),
-        Err(_) => Err(Cause::BadVoltage),
-    }
 }

@@ -4,6 +4,7 @@ use Rattle.cvc_base.specs.declared.fault.FileKind.{FileKind}
 use Rattle.cvc_lex.specs.Lexing.{Refuses}
 use Rattle.cvc_lex.specs.Lines.{lexical}
 use Rattle.cvc_model.proofs.Verdicts.{AtFault-weaker}
+use Rattle.cvc_model.proofs.Binding.{models_are}
 use Rattle.cvc_model.proofs.Whole.{gives_rows, gives_lexical, gives_fault}
 use Rattle.cvc_model.proofs.reading.read_models.Goals as goal
 
@@ -33,3 +34,6 @@ returns-in-Ok-of-clause-rows c =
     let fed_file = c.feed.ensures.same.0 ∙ c.in-Ok.ensures.fresh.0 in
     gives_rows c.finish-ended.new.self c.args.bytes.now stands (c.finish-ended.ensures.same.0 ∙ fed_file) c.finish-ended.ensures.same.1
     c.in_ok-ended.ensures.refused (subst (λ (k : FileKind). lexical k c.args.bytes.now ≡ None) fed_file (c.in_ok-ended.ensures.refuses _ _ fed)) c.in_ok-rows.rows c.in_ok-rows.ensures.rows ∙ ap Ok (sym c.in-Ok-of.ensures)
+
+pub returns-in-Ok-of-clause-bindable : goal.returns-in-Ok-of-clause-bindable
+returns-in-Ok-of-clause-bindable c = models_are c.args.bytes.now _ (returns-in-Ok-of-clause-rows c)

@@ -1,6 +1,6 @@
 use Rattle.std.proofs.Common.{◌∙◌, sym}
 use Rattle.std.proofs.lemmas.Result.{err_from_is_err_and}
-use Rattle.cvc_model.proofs.Stepping.{AtCause-weaker}
+use Rattle.cvc_model.proofs.Stepping.{AtCause-weaker, of_draft}
 use Rattle.cvc_model.proofs.Tokens.{rest_of, short, unknown, bad_item, bad_volts, the_row}
 use Rattle.cvc_model.proofs.reading.read_row.Goals as goal
 
@@ -18,15 +18,17 @@ returns-in_err-draft-clause-fault c =
     rw (p.1, p.2) (AtCause-weaker c.in_err-draft.field-0.0 _ _
     (λ cause bad. bad_item c.args.line.now c.as_slice.result.now c.as_slice.ensures c.name-item.result c.word-item.result c.in-len2-up.len_at_least c.name-item.is c.word-item.is
     c.bytes.result.now c.bytes.ensures _ (rest_of c.args.line.now c.as_slice.result.now c.as_slice.ensures) c.in-Some.kind (sym c.in-Some.ensures) cause bad)
-    c.in_err-draft.ensures.fault)
+    c.in_err-draft.ensures)
 
 pub returns-in-Err-clause-fault : goal.returns-in-Err-clause-fault
 returns-in-Err-clause-fault c =
+    let said = of_draft _ _ c.in_ok-draft.ensures in
     bad_volts c.args.line.now c.as_slice.result.now c.as_slice.ensures c.name-item.result c.word-item.result c.in-len2-up.len_at_least c.name-item.is c.word-item.is
-    c.bytes.result.now c.bytes.ensures _ (rest_of c.args.line.now c.as_slice.result.now c.as_slice.ensures) c.in-Some.kind (sym c.in-Some.ensures) c.in_ok-draft.draft c.in_ok-draft.ensures.draft c.in-Err.cause (sym c.in-Err.ensures)
+    c.bytes.result.now c.bytes.ensures _ (rest_of c.args.line.now c.as_slice.result.now c.as_slice.ensures) c.in-Some.kind (sym c.in-Some.ensures) said.0 said.1.0 c.in-Err.cause (sym (c.in-Err.ensures said.0.settings said.1.1.voltages))
 
 pub returns-clause-row : goal.returns-clause-row
 returns-clause-row c =
+    let said = of_draft _ _ c.in_ok-draft.ensures in
     the_row c.args.line.now c.as_slice.result.now c.as_slice.ensures c.name-item.result c.word-item.result c.in-len2-up.len_at_least c.name-item.is c.word-item.is
-    c.bytes.result.now c.bytes.ensures _ (rest_of c.args.line.now c.as_slice.result.now c.as_slice.ensures) c.in-Some.kind (sym c.in-Some.ensures) c.in_ok-draft.draft c.in_ok-draft.ensures.draft c.in-Ok.volts (sym c.in-Ok.ensures)
-    c.in_ok-of.field-0 (c.in_ok-of.ensures ∙ c.bytes-2.ensures)
+    c.bytes.result.now c.bytes.ensures _ (rest_of c.args.line.now c.as_slice.result.now c.as_slice.ensures) c.in-Some.kind (sym c.in-Some.ensures) said.0 said.1.0 c.in-Ok.volts (sym (c.in-Ok.ensures said.0.settings said.1.1.voltages))
+    c.in_ok-of.field-0 (c.in_ok-of.ensures ∙ c.bytes-2.ensures) _ said.1.1.tests
