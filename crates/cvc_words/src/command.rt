@@ -1,0 +1,26 @@
+//! What the words ask for.
+
+use cvc_base::Text;
+
+/// A check: the names of its three files, the cell that is its top (none: by default), how many workers settle it, from 1 to 64, and whether the
+/// report lists the nets.
+#[derive(Debug, Drop)]
+pub struct Job {
+    pub netlist: Text,
+    pub models: Text,
+    pub power: Text,
+    pub top: Option<Text>,
+    pub workers: u32,
+    pub nets: bool,
+}
+
+/// What the program is to do.
+#[derive(Debug, Drop)]
+pub enum Command {
+    /// Check the files of the job with its workers.
+    Check(Job),
+    /// Check them on one thread; the number of workers means nothing.
+    Serial(Job),
+    /// Check the netlist that is generated from the seed, with `size` stages, from 1 to 200,000.
+    Gen { seed: u64, size: u32, workers: u32 },
+}
