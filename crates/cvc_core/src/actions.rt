@@ -10,7 +10,6 @@ ghost use Rattle.cvc_core.specs.Tried.{IsStepTried};
 
 use crate::guards::{may_read, may_release, may_widen};
 use crate::offers::offer;
-use crate::places::{read_place, target};
 use crate::runs::{begun, given, loaded, marked, next_debt, next_device, with_credits};
 use crate::store::{Mark, Store};
 use crate::{Actor, Debt};
@@ -29,7 +28,8 @@ impl Store {
         if !may_read(circuit, &run, read) {
             return false;
         }
-        let reach = self.bounds[read_place(circuit, run.device, read)];
+        let device = circuit.device(run.device);
+        let reach = self.bounds[device.read_place(read)];
         self.actors[usize::from(k)] = Actor::Running(loaded(run, read, reach));
         true
     }
@@ -46,8 +46,9 @@ impl Store {
             return false;
         }
         let reach = offer(circuit, &run, slot);
-        let net = target(circuit, run.device, slot);
-        let bound = 2 * net.0 as usize + usize::from(slot % 2);
+        let device = circuit.device(run.device);
+        let net = device.target(slot);
+        let bound = device.target_place(slot);
         let before = self.bounds[bound];
         let owes = (before < reach).then_some(Debt { net, place: 0 });
         self.bounds[bound] = before.max(reach);

@@ -7,7 +7,6 @@ ghost use Rattle.cvc_core.specs.Store.{IsReady};
 
 use crate::Run;
 use crate::offers::offer;
-use crate::places::{read_count, target};
 use cvc_law::Circuit;
 
 /// Whether no slot was given.
@@ -28,7 +27,7 @@ fn is_loaded(circuit: &Circuit, run: &Run) -> bool
     requires { IsReady circuit.now run.now }
     ensures { IsTrue result ↔ IsLoaded circuit.now run.now }
 {
-    let needed = read_count(circuit.device(run.device).kind);
+    let needed = circuit.device(run.device).read_count();
     for read in 0..usize::from(needed) {
         if run.reads[read].is_none() {
             return false;
@@ -45,7 +44,9 @@ fn is_settled(circuit: &Circuit, run: &Run, slot: u8) -> bool
 {
     run.given[usize::from(slot)]
         || offer(circuit, run, slot) == 0
-        || circuit.fixed(target(circuit, run.device, slot)).is_some()
+        || circuit
+            .fixed(circuit.device(run.device).target(slot))
+            .is_some()
 }
 
 /// Whether every slot is settled.
@@ -66,7 +67,7 @@ pub(crate) fn may_read(circuit: &Circuit, run: &Run, read: u8) -> bool
     requires { IsReady circuit.now run.now }
     ensures { IsTrue result ↔ ((needs (device_of circuit.now run.now).kind read ≡ true) × (read_at run.now read ≡ None) × NothingGiven run.now) }
 {
-    let needed = read_count(circuit.device(run.device).kind);
+    let needed = circuit.device(run.device).read_count();
     read < needed && run.reads[usize::from(read)].is_none() && nothing_given(run)
 }
 
@@ -78,7 +79,9 @@ fn is_unsettled(circuit: &Circuit, run: &Run, slot: u8) -> bool
 {
     !run.given[usize::from(slot)]
         && offer(circuit, run, slot) > 0
-        && circuit.fixed(target(circuit, run.device, slot)).is_none()
+        && circuit
+            .fixed(circuit.device(run.device).target(slot))
+            .is_none()
 }
 
 /// Whether a slot may be given now.

@@ -51,10 +51,11 @@ pub fn every_reached_state_is_sound()
     ensures { (c : Network) (n : ℕ) (es : List Event) → IsCircuit c.fixed c.devices → n ≤ 64 → AreEnabled c (start c n) es → Sound c (after_all c (start c n) es) }
 {}
 
-/// Where the count is 0 the bounds are the least family, and no event changes a bound, a mark or the count from there.
+/// Where the count is 0 the bounds are the least family, and no step and no event changes a bound, a mark or the count from there.
 pub fn a_quiet_state_is_the_least_family()
     ensures reaches { (c : Network) (s : Machine) → Sound c s → s.count ≡ 0 → IsReachLeast c s.bounds }
     ensures intervals { (c : Network) (s : Machine) → Sound c s → s.count ≡ 0 → IsLeast c (intervals c s.bounds) }
+    ensures steps_stay { (c : Network) (s : Machine) (k : ℕ) (i : Intent) (a : Actor) → Sound c s → s.count ≡ 0 → actor_at s k ≡ a → IsAllowed c i a (found s (place_of c i a)) → ((step_by c s k i a).bounds ≡ s.bounds) × ((step_by c s k i a).marks ≡ s.marks) × ((step_by c s k i a).count ≡ 0) }
     ensures stays { (c : Network) (s : Machine) (e : Event) → Sound c s → s.count ≡ 0 → IsEnabled c s e → ((after c s e).bounds ≡ s.bounds) × ((after c s e).marks ≡ s.marks) × ((after c s e).count ≡ 0) }
 {}
 

@@ -10,7 +10,6 @@ pub mod laws;
 mod machine;
 mod offers;
 mod opening;
-mod places;
 mod runs;
 mod scale;
 mod state;

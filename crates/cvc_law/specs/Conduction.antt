@@ -1,7 +1,7 @@
 -- Conduction: what a device hands on to the net at one of its ends, by what is known of its nets.
 -- Slots 0 and 1 hand a low and a high from end a to end b, slots 2 and 3 a low and a high from b to a. A diode has the slots 1 and 2 alone.
 -- A slot gives nothing where a bound that its row names is unknown, where the row's condition fails, or where the value lies below the floor or above the ceiling.
-use Rattle.std.specs.Prelude.{ℕ, zero, suc, ℤ, ◌+ℤ◌, ◌-ℤ◌, int_le, Option, Some, None, ◌&&◌, nat_lt, if◌then◌else◌, slice_get, option_and_then}
+use Rattle.std.specs.Prelude.{ℕ, zero, suc, ℤ, ◌+ℤ◌, ◌-ℤ◌, int_le, Option, Some, None, ◌&&◌, nat_lt, if◌then◌else◌}
 use Rattle.std.specs.Int.{int_min, int_max}
 use Rattle.cvc_base.specs.declared.device.Kind.{Kind}
 use Rattle.cvc_base.specs.declared.device.Kind.TheVariants.{Nmos, Pmos, Resistor, Diode, Inductor}
@@ -67,7 +67,3 @@ given c d slot r = kept_within (floor_of c) (ceiling_of c) (offered d.kind d.vol
 -- the net that a slot gives to
 abbrev pub target : Device → ℕ → ℕ
 target d slot = if nat_lt slot 2 then end_b d else end_a d
-
--- the same of the device of a number; where there is none, nothing
-abbrev pub given_at : Network → ℕ → ℕ → Reads → Option ℤ
-given_at c i slot r = option_and_then (λ d. given c d slot r) (slice_get c.devices i)

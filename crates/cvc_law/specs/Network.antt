@@ -44,6 +44,10 @@ pins_of Pmos = 4
 pins_of Bipolar = 3
 pins_of _ = 2
 
+-- it has as many pins as its kind
+abbrev pub HasPins : Device → Type 0
+HasPins d = length d.pins.items ≡ pins_of d.kind
+
 -- the end a: the drain of a MOS, the anode of a diode, the first net of the others
 abbrev pub end_a : Device → ℕ
 end_a d = pin d 0
@@ -110,7 +114,7 @@ ceiling_of c = greatest_high c.fixed
 
 -- what a circuit must meet
 pub record IsDevice (net_count : ℕ) (d : Device) : Type 0 where
-  pub pin_count : length d.pins.items ≡ pins_of d.kind
+  pub pin_count : HasPins d
   pub on_nets : (i : ℕ) → i < pins_of d.kind → pin d i < net_count
   pub drop : pos 0 ≤ℤ d.volts.drop
   pub junction : pos 0 ≤ℤ d.volts.junction

@@ -1,6 +1,7 @@
 //! Circuits: what each net is declared at, the devices, and the fans of the nets.
 ghost use Rattle.std.specs.Prelude.{◌≡◌, ◌<◌, Option, Some, map, slice_get, IfOk, All};
 ghost use Rattle.cvc_law.specs.Network.{IsCircuit, IsDevice, nets, devices, fixed_at, fan_of, floor_of, ceiling_of};
+ghost use Rattle.cvc_law.specs.Reach.{device_at};
 
 use crate::fans::{Fans, fans_of};
 use crate::range::{highest, lowest};
@@ -81,6 +82,7 @@ impl Circuit {
     pub fn device(&self, d: DevId) -> &Device
         requires { d.0 < devices self.now }
         ensures device { slice_get self.now.devices d.0 ≡ Some result.now }
+        ensures same { result.now ≡ device_at self.now d.0 }
         ensures sound { IsDevice (nets self.now) result.now }
     {
         &self.devices[d.0 as usize]

@@ -1,38 +1,11 @@
 //! Whether a voltage family is closed at a device.
 ghost use Rattle.std.specs.Prelude.{◌≡◌, ◌<◌, ◌↔◌, length, IsTrue};
 ghost use Rattle.cvc_law.specs.Network.{nets, devices, IsDevice};
-ghost use Rattle.cvc_law.specs.Conduction.{target};
-ghost use Rattle.cvc_law.specs.Least.{reads_of, Covers, IsSlotClosed, IsClosedAtNumber};
+ghost use Rattle.cvc_law.specs.Least.{Covers, IsSlotClosed, IsClosedAtNumber};
 
 use crate::conduct::given;
-use crate::device::{end_a, end_b, gate};
 use crate::{Circuit, Device, Family, Interval, Reads};
-use cvc_base::{DevId, NetId};
-
-/// What the family says of the device's nets.
-fn reads_of(family: &Family, device: &Device) -> Reads
-    requires { IsDevice (length family.now) device.now }
-    ensures { result ≡ reads_of family.now device.now }
-{
-    Reads {
-        a: family.interval(end_a(device)),
-        b: family.interval(end_b(device)),
-        g: family.interval(gate(device)),
-    }
-}
-
-/// The net that a slot gives to.
-fn target(device: &Device, slot: u8, net_count: usize) -> NetId
-    requires { IsDevice net_count device.now }
-    ensures net { result.0 ≡ target device.now slot }
-    ensures inside { result.0 < net_count }
-{
-    if slot < 2 {
-        end_b(device)
-    } else {
-        end_a(device)
-    }
-}
+use cvc_base::DevId;
 
 /// Whether a value that a slot gave lies in the interval: even slots give a low, odd ones a high.
 fn covers(interval: &Interval, slot: u8, value: i64) -> bool
@@ -58,7 +31,7 @@ fn is_slot_closed(
     requires sound { IsDevice (nets circuit.now) device.now }
     ensures { IsTrue result ↔ IsSlotClosed circuit.now family.now device.now slot reads.now }
 {
-    let to = target(device, slot, circuit.nets() as usize);
+    let to = device.target(slot);
     if circuit.fixed(to).is_some() {
         return true;
     }
@@ -75,7 +48,7 @@ pub fn closed_at(circuit: &Circuit, family: &Family, d: DevId) -> bool
     ensures { IsTrue result ↔ IsClosedAtNumber circuit.now family.now d.0 }
 {
     let device = circuit.device(d);
-    let reads = reads_of(family, device);
+    let reads = family.reads(device);
     for slot in 0..4 {
         if !is_slot_closed(circuit, family, device, slot, &reads) {
             return false;

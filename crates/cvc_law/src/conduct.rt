@@ -1,8 +1,8 @@
 //! What a device gives to the net at one of its ends.
-ghost use Rattle.std.specs.Prelude.{◌≡◌, ◌<◌, Some, slice_get};
-ghost use Rattle.cvc_law.specs.declared.device.Device.{Device};
+ghost use Rattle.std.specs.Prelude.{◌≡◌, ◌<◌};
 ghost use Rattle.cvc_law.specs.Network.{devices};
-ghost use Rattle.cvc_law.specs.Conduction.{low_from, high_from, diode_gives, end_gives, offered, kept_within, given, given_at};
+ghost use Rattle.cvc_law.specs.Conduction.{low_from, high_from, diode_gives, end_gives, offered, kept_within, given};
+ghost use Rattle.cvc_law.specs.Reach.{device_at};
 
 use crate::{Circuit, Device, Interval, Reads};
 use cvc_base::{DevId, Kind, Mv, Volts};
@@ -139,8 +139,7 @@ pub(crate) fn given(circuit: &Circuit, device: &Device, slot: u8, reads: &Reads)
 pub fn gives(circuit: &Circuit, d: DevId, slot: u8, reads: &Reads) -> Option<i64>
     requires device { d.0 < devices circuit.now }
     requires slot { slot < 4 }
-    ensures at { result ≡ given_at circuit.now d.0 slot reads.now }
-    ensures device { (dev : Device) → slice_get circuit.now.devices d.0 ≡ Some dev → result ≡ given circuit.now dev slot reads.now }
+    ensures { result ≡ given circuit.now (device_at circuit.now d.0) slot reads.now }
 {
     given(circuit, circuit.device(d), slot, reads)
 }

@@ -1,7 +1,7 @@
 //! Voltage families.
 ghost use Rattle.std.specs.Prelude.{◌≡◌, ◌<◌, length};
 
-use crate::Interval;
+use crate::{Device, Interval, Reads};
 use cvc_base::NetId;
 use std::marker::Model;
 
@@ -21,7 +21,9 @@ impl Model for Family {
 }
 
 impl Family {
+    ghost use Rattle.cvc_law.specs.Network.{IsDevice};
     ghost use Rattle.cvc_law.specs.Family.{interval_at};
+    ghost use Rattle.cvc_law.specs.Least.{reads_of};
 
     /// The family of these intervals, one a net.
     pub fn new(intervals: Vec<Interval>) -> Family
@@ -36,5 +38,13 @@ impl Family {
         ensures { result ≡ interval_at self.now n.0 }
     {
         self.intervals[n.0 as usize]
+    }
+
+    /// What it says of the device's ends and gate.
+    pub fn reads(&self, device: &Device) -> Reads
+        requires { IsDevice (length self.now) device.now }
+        ensures { result ≡ reads_of self.now device.now }
+    {
+        device.reads(&self.intervals)
     }
 }

@@ -1,14 +1,16 @@
 -- One slot of a device in the reach form: a slot that is closed is tried, and a widening sets the slot's bound to what the slot gives.
-use Rattle.std.proofs.Common.{◌≡◌, ℕ, zero, suc, ◌+◌, ◌*◌, ◌%◌, ◌/◌, ◌<◌, ◌≤◌, Bool, true, false, cond, Some, List, length, inl, inr, arith, sym, ap, ◌∙◌, subst}
+use Rattle.std.proofs.Common.{◌≡◌, ℕ, zero, suc, ◌+◌, ◌*◌, ◌%◌, ◌/◌, ◌<◌, ◌≤◌, Bool, true, false, cond, Some, List, length, get_or, inl, inr, arith, sym, ap, ◌∙◌, subst}
 use Rattle.std.proofs.lemmas.Bool.{cases_order}
-use Rattle.std.proofs.lemmas.List.{length-set, get_or-set_other, get_or-set_same}
-use Rattle.std.specs.Prelude.{ℤ, pos, ◌≤ℤ◌, slice_index, slice_set, IfSome, is_some}
+use Rattle.std.proofs.lemmas.List.{length-set, get_or-set_other, get_or-set_same, get_or_read}
+use Rattle.std.specs.Prelude.{Option, ℤ, pos, ◌≤ℤ◌, slice_index, slice_set, IfSome, is_some}
+use Rattle.cvc_base.specs.declared.ids.NetId.{NetId}
 use Rattle.cvc_law.specs.declared.interval.Interval.{Interval}
+use Rattle.cvc_law.specs.declared.interval.Reads.{Reads}
 use Rattle.cvc_law.specs.declared.device.Device.{Device}
 use Rattle.cvc_law.specs.Network.{Network, is_declared}
 use Rattle.cvc_law.specs.Conduction.{given, target}
 use Rattle.cvc_law.specs.Family.{unknown, interval_at, IsInRange, IsFamily}
-use Rattle.cvc_law.specs.Least.{reads_of, IsSlotClosed}
+use Rattle.cvc_law.specs.Least.{reads_of, Covers, IsSlotClosed}
 use Rattle.cvc_law.specs.Reach.{reach_of, reach_on, target_place, gives, reach_reads}
 use Rattle.cvc_law.specs.ReachLeast.{reaches}
 use Rattle.cvc_law.proofs.ReachConduct.{given_in_range, reaches_covered, covers_reached}
@@ -96,4 +98,31 @@ widens c f d k w lt drop inside family h =
         | inr (inl less) ↦ less
         | inr (inr more) ↦ absurd (h.not_covered (covers_reached c (interval_at f (target d k)) k h.value lt range (omega arith)))
       ];
+    }
+
+-- ---- what one visit of a slot found
+found_interval : (f : List Interval) (d : Device) (k net : ℕ) (i : Interval) → net ≡ target d k → net < length f → i ≡ get_or f net i → i ≡ interval_at f (target d k)
+found_interval f d k net i at inside there = get_or_read f net i inside there unknown ∙ ap (interval_at f) at
+
+gave_on_family : (c : Network) (f : List Interval) (d : Device) (k : ℕ) (v : ℤ) (r : Reads) (x : Option ℤ) → r ≡ reads_of f d → x ≡ given c d k r → x ≡ Some v → given c d k (reads_of f d) ≡ Some v
+gave_on_family c f d k v r x reads gave is = sym (ap (given c d k) reads) ∙ (sym gave ∙ is)
+
+pub slot_covered : (c : Network) (f : List Interval) (d : Device) (k net : ℕ) (v : ℤ) (i : Interval) (r : Reads) (x : Option ℤ)
+    → net ≡ target d k → net < length f → i ≡ get_or f net i → r ≡ reads_of f d → x ≡ given c d k r → x ≡ Some v → Covers i k v → IsSlotClosed c f d k (reads_of f d)
+slot_covered c f d k net v i r x at inside there reads gave is covers = λ w free gives.
+    let both : Some v ≡ Some w = sym (gave_on_family c f d k v r x reads gave is) ∙ gives in
+    let same : v ≡ w = cc in
+    subst (λ (z : ℤ). Covers (interval_at f (target d k)) k z) same (subst (λ (j : Interval). Covers j k v) (found_interval f d k net i at inside there) covers)
+
+pub slot_widens : (c : Network) (f : List Interval) (d : Device) (k : ℕ) (net : NetId) (v : ℤ) (i wide : Interval) (r : Reads) (x : Option ℤ)
+    → net.0 ≡ target d k → net.0 < length f → i ≡ get_or f net.0 i → r ≡ reads_of f d → x ≡ given c d k r → x ≡ Some v → is_declared c net.0 ≡ false → (wide ≡ with_bound i k v) × (Covers i k v → ⊥) → IsWidening c f d k record { net = net; interval = wide }
+slot_widens c f d k net v i wide r x at inside there reads gave is free more =
+    let found : i ≡ interval_at f (target d k) = found_interval f d k net.0 i at inside there in
+    record {
+      value = v;
+      net = at;
+      free = ap (is_declared c) (sym at) ∙ free;
+      is_given = gave_on_family c f d k v r x reads gave is;
+      not_covered = λ covers. more.1 (subst (λ (j : Interval). Covers j k v) (sym found) covers);
+      interval = more.0 ∙ ap (λ (j : Interval). with_bound j k v) found;
     }

@@ -1,66 +1,19 @@
 //! What one slot of a device widens.
-ghost use Rattle.std.specs.Prelude.{◌≡◌, ◌<◌, ℤ, ◌≤ℤ◌, Some, length, slice_get, IsSomeAnd, IfSome, IfNone};
-ghost use Rattle.cvc_law.specs.declared.device.Device.{Device};
-ghost use Rattle.cvc_law.specs.Network.{nets, devices, pin, pins_of, end_a, end_b, gate, IsDevice};
-ghost use Rattle.cvc_law.specs.Conduction.{given, target};
+ghost use Rattle.std.specs.Prelude.{◌≡◌, ◌<◌, ℤ, ◌≤ℤ◌, Some, length, IsSomeAnd, IfSome, IfNone};
+ghost use Rattle.cvc_law.specs.Network.{nets, devices};
+ghost use Rattle.cvc_law.specs.Conduction.{given};
 ghost use Rattle.cvc_law.specs.Least.{reads_of, Covers, IsSlotClosed};
 ghost use Rattle.cvc_law.specs.Reach.{device_at};
 ghost use Rattle.cvc_serial.specs.Widening.{with_bound, IsWidening};
 
-use cvc_base::{DevId, Kind, Mv, NetId};
-use cvc_law::{Circuit, Device, Interval, Reads, gives};
+use cvc_base::{DevId, Mv, NetId};
+use cvc_law::{Circuit, Interval, Reads, gives};
 
 /// A net and what is to be known of it.
 #[derive(Clone, Copy)]
 pub(crate) struct Widening {
     pub(crate) net: NetId,
     pub(crate) interval: Interval,
-}
-
-/// The net of the pin at this place of the card.
-fn pin(device: &Device, i: usize) -> NetId
-    requires { i < length device.now.pins.items }
-    ensures { result.0 ≡ pin device.now i }
-{
-    device.pins.as_slice()[i]
-}
-
-/// The net at the end b: the source, the cathode or the second net.
-fn end_b(device: &Device) -> NetId
-    requires { length device.now.pins.items ≡ pins_of device.now.kind }
-    ensures { result.0 ≡ end_b device.now }
-{
-    match device.kind {
-        Kind::Nmos | Kind::Pmos => pin(device, 2),
-        Kind::Resistor | Kind::Diode | Kind::Capacitor | Kind::Inductor | Kind::Bipolar => {
-            pin(device, 1)
-        }
-    }
-}
-
-/// What is known of the device's nets.
-fn reads_of(bounds: &[Interval], device: &Device) -> Reads
-    requires { IsDevice (length bounds.now) device.now }
-    ensures { result ≡ reads_of bounds.now device.now }
-{
-    Reads {
-        a: bounds[pin(device, 0).0 as usize],
-        b: bounds[end_b(device).0 as usize],
-        g: bounds[pin(device, 1).0 as usize],
-    }
-}
-
-/// The net that a slot gives to.
-fn target(device: &Device, slot: u8, net_count: usize) -> NetId
-    requires { IsDevice net_count device.now }
-    ensures net { result.0 ≡ target device.now slot }
-    ensures inside { result.0 < net_count }
-{
-    if slot < 2 {
-        end_b(device)
-    } else {
-        pin(device, 0)
-    }
 }
 
 /// A value from the floor to the ceiling is a voltage.
@@ -76,7 +29,7 @@ fn voltage(floor: Option<Mv>, ceiling: Option<Mv>, value: i64) -> Option<Mv>
 fn given(circuit: &Circuit, d: DevId, slot: u8, reads: &Reads) -> Option<Mv>
     requires device { d.0 < devices circuit.now }
     requires slot { slot < 4 }
-    ensures { (dev : Device) → slice_get circuit.now.devices d.0 ≡ Some dev → result ≡ given circuit.now dev slot reads.now }
+    ensures { result ≡ given circuit.now (device_at circuit.now d.0) slot reads.now }
 {
     let value = gives(circuit, d, slot, reads)?;
     voltage(circuit.floor(), circuit.ceiling(), value)
@@ -120,11 +73,11 @@ pub(crate) fn widening_of(
     ensures some { IfSome result (IsWidening circuit.now bounds.now (device_at circuit.now d.0) slot) }
 {
     let device = circuit.device(d);
-    let net = target(device, slot, bounds.len());
+    let net = device.target(slot);
     if circuit.fixed(net).is_some() {
         return None;
     }
-    let reads = reads_of(bounds, device);
+    let reads = device.reads(bounds);
     let value = given(circuit, d, slot, &reads)?;
     let interval = widened(bounds[net.0 as usize], slot, value)?;
     Some(Widening { net, interval })

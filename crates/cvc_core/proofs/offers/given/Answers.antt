@@ -1,15 +1,13 @@
 use Rattle.std.proofs.Common.{◌≡◌, ap, ◌∙◌}
 use Rattle.cvc_law.specs.Conduction.{given}
 use Rattle.cvc_law.specs.Reach.{device_at}
-use Rattle.cvc_law.proofs.ReachPlaces.{device_at_get}
 use Rattle.cvc_core.specs.Store.{held_reads}
 use Rattle.cvc_core.proofs.Offering.{given_between}
 use Rattle.cvc_core.proofs.offers.given.Goals as goal
 use Rattle.cvc_core.proofs.offers.given.Goals.{After-ceiling}
 
 value_is : (c : After-ceiling) → c.gives-value.result ≡ given c.args.circuit.now (device_at c.args.circuit.now c.args.run.now.device.0) c.args.slot (held_reads c.args.circuit.now c.args.run.now)
-value_is c = c.gives-value.ensures.device _ (device_at_get c.args.circuit.now c.args.run.now.device.0 c.requires.ready.run.device)
-    ∙ ap (given c.args.circuit.now (device_at c.args.circuit.now c.args.run.now.device.0) c.args.slot) c.held_reads-reads.ensures
+value_is c = c.gives-value.ensures ∙ ap (given c.args.circuit.now (device_at c.args.circuit.now c.args.run.now.device.0) c.args.slot) c.held_reads-reads.ensures
 
 pub voltage-requires : goal.voltage-requires
 voltage-requires c = given_between c.args.circuit.now (device_at c.args.circuit.now c.args.run.now.device.0) c.args.slot (held_reads c.args.circuit.now c.args.run.now)

@@ -4,4 +4,4 @@ use Rattle.cvc_law.proofs.close.closed_at.Goals as goal
 
 pub loop-slot-preserved : goal.loop-slot-preserved
 loop-slot-preserved c =
-    below_more (λ s. IsSlotClosed c.args.circuit.now c.args.family.now c.device-device.result.now s c.reads_of-reads.result) c.loop-slot.slot c.loop-slot.invariant (c.is_slot_closed.ensures.0 c.if-not-is_slot_closed.false)
+    below_more (λ s. IsSlotClosed c.args.circuit.now c.args.family.now c.device-device.result.now s c.reads-reads.result) c.loop-slot.slot c.loop-slot.invariant (c.is_slot_closed.ensures.0 c.if-not-is_slot_closed.false)
