@@ -8,7 +8,6 @@ ghost use Rattle.cvc_bias.specs.Bias.{bias_finding};
 ghost use Rattle.cvc_bias.specs.Measured.{numbers_of, bias_numbers};
 
 use crate::excess::{Excess, difference, exceeding, greater_of, spread};
-use crate::pins::{bulk, end_a, end_b, gate};
 use cvc_base::{DevId, Finding, Kind, Mv, NetId, Rule};
 use cvc_law::{Circuit, Device, Family};
 
@@ -27,9 +26,9 @@ fn junction_bias(family: &Family, device: &Device) -> Option<Excess>
     requires mos { IsTrue (is_mos device.now.kind) }
     ensures { (c : Network) → numbers_of result ≡ holds c family.now device.now Rule.SourceBulk }
 {
-    let bulk = family.interval(bulk(device));
-    let source = family.interval(end_b(device));
-    let drain = family.interval(end_a(device));
+    let bulk = family.interval(device.bulk());
+    let source = family.interval(device.end_b());
+    let drain = family.interval(device.end_a());
     let found = match device.kind {
         Kind::Nmos => greater_of(
             difference(bulk.high, source.low),
@@ -50,15 +49,15 @@ fn mos_excess(family: &Family, device: &Device, rule: Rule) -> Option<Excess>
     ensures { (c : Network) → numbers_of result ≡ bias_numbers c family.now device.now rule }
 {
     let volts = &device.volts;
-    let drain = end_a(device);
-    let source = end_b(device);
+    let drain = device.end_a();
+    let source = device.end_b();
     match rule {
-        Rule::OvervoltageGs => overvoltage(family, volts.vgs, gate(device), source),
-        Rule::OvervoltageGd => overvoltage(family, volts.vgd, gate(device), drain),
+        Rule::OvervoltageGs => overvoltage(family, volts.vgs, device.gate(), source),
+        Rule::OvervoltageGd => overvoltage(family, volts.vgd, device.gate(), drain),
         Rule::OvervoltageDs => overvoltage(family, volts.vds, drain, source),
-        Rule::OvervoltageBs => overvoltage(family, volts.vbs, bulk(device), source),
-        Rule::OvervoltageBd => overvoltage(family, volts.vbd, bulk(device), drain),
-        Rule::OvervoltageBg => overvoltage(family, volts.vbg, bulk(device), gate(device)),
+        Rule::OvervoltageBs => overvoltage(family, volts.vbs, device.bulk(), source),
+        Rule::OvervoltageBd => overvoltage(family, volts.vbd, device.bulk(), drain),
+        Rule::OvervoltageBg => overvoltage(family, volts.vbg, device.bulk(), device.gate()),
         Rule::SourceBulk => junction_bias(family, device),
         Rule::ForwardBias
         | Rule::PossibleLeak
@@ -74,8 +73,8 @@ fn forward_bias(family: &Family, device: &Device) -> Option<Excess>
     requires diode { device.now.kind ≡ Kind.Diode }
     ensures { (c : Network) → numbers_of result ≡ holds c family.now device.now Rule.ForwardBias }
 {
-    let anode = family.interval(end_a(device));
-    let cathode = family.interval(end_b(device));
+    let anode = family.interval(device.end_a());
+    let cathode = family.interval(device.end_b());
     exceeding(device.volts.drop, difference(anode.high, cathode.low))
 }
 

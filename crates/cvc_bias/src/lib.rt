@@ -6,7 +6,6 @@ mod at;
 mod excess;
 mod found;
 mod list;
-mod pins;
 
 pub use at::bias_at;
 pub use list::list_bias;
