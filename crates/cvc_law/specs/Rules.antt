@@ -153,8 +153,16 @@ findings_below c f rule (suc i) = findings_below c f rule i ++ option_to_list (f
 abbrev pub findings_by : Network → List Interval → Rule → List Finding
 findings_by c f rule = findings_below c f rule (devices c)
 
+-- the rules about voltages between pins, in the report's order
+abbrev pub bias_rules : List Rule
+bias_rules = OvervoltageGs ∷ OvervoltageGd ∷ OvervoltageDs ∷ OvervoltageBs ∷ OvervoltageBd ∷ OvervoltageBg ∷ ForwardBias ∷ SourceBulk ∷ []
+
+-- the rules about leaks, paths between supplies and gates that nothing drives, which come after them
+abbrev pub leak_rules : List Rule
+leak_rules = PossibleLeak ∷ SupplyPath ∷ FloatingGate ∷ SureLeak ∷ []
+
 abbrev pub all_rules : List Rule
-all_rules = OvervoltageGs ∷ OvervoltageGd ∷ OvervoltageDs ∷ OvervoltageBs ∷ OvervoltageBd ∷ OvervoltageBg ∷ ForwardBias ∷ SourceBulk ∷ PossibleLeak ∷ SupplyPath ∷ FloatingGate ∷ SureLeak ∷ []
+all_rules = bias_rules ++ leak_rules
 
 -- all findings: by rule, and of one rule by device
 abbrev pub findings_of : Network → List Interval → List Finding

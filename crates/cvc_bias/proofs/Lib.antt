@@ -1,0 +1,2 @@
+pub mod AtDevice
+pub mod Ranges

@@ -1,0 +1,3 @@
+pub mod Bias
+pub mod Measured
+pub mod Found

@@ -1,0 +1,3 @@
+pub mod AtDevice
+pub mod Ranges
+pub mod Leaks

@@ -1,0 +1,3 @@
+pub mod Leak
+pub mod Figures
+pub mod Found
