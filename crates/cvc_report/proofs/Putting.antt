@@ -1,10 +1,13 @@
 -- Texts that are put one behind another.
-use Rattle.std.proofs.Common.{◌≡◌, ℕ, ◌+◌, ◌-◌, ◌≤◌, List, [], ◌∷◌, ◌++◌, length, take, drop, Option, Some, None, refl, sym, ap, subst, ◌∙◌, append_assoc, length-append, length-drop, arith}
-use Rattle.std.specs.Prelude.{◌^◌, min, Result, Ok, Err}
+use Rattle.std.proofs.Common.{◌≡◌, ℕ, ◌+◌, ◌-◌, ◌≤◌, List, [], ◌∷◌, ◌++◌, ◌<◌, length, map, take, drop, get_or, Option, Some, None, refl, sym, ap, subst, ◌∙◌, append_assoc, length-append, length-drop, arith}
+use Rattle.std.specs.Prelude.{◌^◌, min, Result, Ok, Err, OnOk, OnErr}
 use Rattle.std.specs.Io.KnownBytes.{append_known}
-use Rattle.std.proofs.lemmas.List.{append-nil, take_all, take-append-le, take-append-drop}
+use Rattle.std.proofs.lemmas.List.{append-nil, take_all, take-append-le, take-append-drop, take_more}
+use Rattle.std.specs.List.{flat_map}
+use Rattle.std.proofs.lemmas.List.Concat.{flat_map-append}
+use Rattle.std.proofs.lemmas.List.Folds.{flat_map-map}
 use Rattle.std.proofs.Math.Seq.{take-add}
-use Rattle.cvc_io.specs.Causes.{Rose}
+use Rattle.cvc_io.specs.Causes.{Rose, HasCause}
 use Rattle.cvc_report.specs.Writing.{Stand, stand, Moves, Stops, Puts, WritesText}
 
 twice_known : (before : Option (List ℕ)) (x y : List ℕ) → append_known (append_known before x) y ≡ append_known before (x ++ y)
@@ -71,6 +74,14 @@ puts_stopped {T} {E} r e is a b text stops =
     let P : Result T E → Type 0 = λ s. Puts s a b text in
     subst P (sym is) stops
 
+-- where the first of two texts stops
+pub first_stopped : {T E : Type 0} (r : Result T E) (e : E) → r ≡ Err e → (a b : Stand) (x y : List ℕ) → Stops a b x → Puts r a b (x ++ y)
+first_stopped r e is a b x y stops = puts_stopped r e is a b (x ++ y) (stops_early a b x y stops)
+
+-- where the second of three stops
+pub second_stopped : {T E : Type 0} (r : Result T E) (e : E) → r ≡ Err e → (a b c : Stand) (x y z : List ℕ) → Moves a b x → Stops b c y → Puts r a c ((x ++ y) ++ z)
+second_stopped r e is a b c x y z moves stops = first_stopped r e is a c (x ++ y) z (stops_then a b c x y moves stops)
+
 -- ## Handing over
 
 pub flushed : (old new : Option (List ℕ)) (waiting : List ℕ) (done before now : ℕ) → new ≡ append_known old (take done waiting) → length waiting ≤ done → before ≤ now → Moves (stand old waiting before) (stand new [] now) []
@@ -105,14 +116,17 @@ flush_stopped old so_far new waiting kept done before middle now grown same firs
 -- ## The whole text
 
 -- nothing waits at the start and at the end
-pub wrote_all : (old new : Option (List ℕ)) (text : List ℕ) (before now : ℕ) → Moves (stand old [] before) (stand new [] now) text → new ≡ append_known old text
-wrote_all old new text before now moves = moves.grown ∙ ap (append_known old) (sym (append-nil moves.taken) ∙ sym moves.kept)
+pub wrote_all : (a b : Stand) (text : List ℕ) → a.waiting ≡ [] → b.waiting ≡ [] → Moves a b text → b.written ≡ append_known a.written text
+wrote_all a b text none empty moves =
+    let whole : text ≡ moves.taken = ap (λ (l : List ℕ). l ++ text) (sym none) ∙ moves.kept ∙ ap (λ (l : List ℕ). moves.taken ++ l) empty ∙ append-nil moves.taken in
+    moves.grown ∙ ap (append_known a.written) (sym whole)
 
-pub wrote_front : (old new : Option (List ℕ)) (waiting text : List ℕ) (before now : ℕ) → Stops (stand old [] before) (stand new waiting now) text → (k : ℕ) × (k ≤ length text) × (new ≡ append_known old (take k text))
-wrote_front old new waiting text before now stops =
-    (length stops.taken,
-     omega (arith, ap length stops.kept, length-append stops.taken stops.rest),
-     stops.grown ∙ ap (append_known old) (sym (ap (take (length stops.taken)) stops.kept ∙ take-append-le (length stops.taken) stops.taken stops.rest (omega arith) ∙ take_all (length stops.taken) stops.taken (omega arith))))
+pub wrote_front : (a b : Stand) (text : List ℕ) → a.waiting ≡ [] → Stops a b text → (k : ℕ) × (k ≤ length text) × (b.written ≡ append_known a.written (take k text))
+wrote_front a b text none stops =
+    let n = length stops.taken in
+    let whole : text ≡ stops.taken ++ stops.rest = ap (λ (l : List ℕ). l ++ text) (sym none) ∙ stops.kept in
+    let front : take n text ≡ stops.taken = ap (take n) whole ∙ take-append-le n stops.taken stops.rest (omega arith) ∙ take_all n stops.taken (omega arith) in
+    (n, omega (arith, ap length whole, length-append stops.taken stops.rest), stops.grown ∙ ap (append_known a.written) (sym front))
 
 -- ## Filling
 
@@ -140,3 +154,72 @@ put_stopped a b c text done before stops =
     let P : List ℕ → Type 0 = λ l. Stops a c l in
     let whole : (take done text ++ []) ++ drop done text ≡ text = ap (λ (l : List ℕ). l ++ drop done text) (append-nil (take done text)) ∙ take-append-drop done text in
     subst P whole (stops_early a c (take done text ++ []) (drop done text) (stops_then a b c (take done text) [] before stops))
+
+-- ## The texts of a list
+
+one_more : {X : Type 0} (f : X → List ℕ) (xs : List X) (i : ℕ) (d : X) → i < length xs → flat_map f (take (i + 1) xs) ≡ flat_map f (take i xs) ++ f (get_or xs i d)
+one_more f xs i d lt =
+    let x = get_or xs i d in
+    ap (flat_map f) (take_more xs i d lt) ∙ flat_map-append f (take i xs) (x ∷ []) ∙ ap (λ (l : List ℕ). flat_map f (take i xs) ++ l) (append-nil (f x))
+
+-- one more item of a list was put
+pub items_more : {X : Type 0} (f : X → List ℕ) (xs : List X) (i : ℕ) (d : X) (a b c : Stand) → i < length xs → Moves a b (flat_map f (take i xs)) → Moves b c (f (get_or xs i d)) → Moves a c (flat_map f (take (i + 1) xs))
+items_more f xs i d a b c lt before more =
+    let P : List ℕ → Type 0 = λ l. Moves a c l in
+    subst P (sym (one_more f xs i d lt)) (moves_then a b c (flat_map f (take i xs)) (f (get_or xs i d)) before more)
+
+-- an item stopped the list
+pub items_stopped : {X : Type 0} (f : X → List ℕ) (xs : List X) (i : ℕ) (d : X) (a b c : Stand) → i < length xs → Moves a b (flat_map f (take i xs)) → Stops b c (f (get_or xs i d)) → Stops a c (flat_map f xs)
+items_stopped f xs i d a b c lt before stops =
+    let P : List ℕ → Type 0 = λ l. Stops a c l in
+    let front = flat_map f (take i xs) in
+    let whole : (front ++ f (get_or xs i d)) ++ flat_map f (drop (i + 1) xs) ≡ flat_map f xs =
+        ap (λ (l : List ℕ). l ++ flat_map f (drop (i + 1) xs)) (sym (one_more f xs i d lt)) ∙ sym (flat_map-append f (take (i + 1) xs) (drop (i + 1) xs)) ∙ ap (flat_map f) (take-append-drop (i + 1) xs) in
+    subst P whole (stops_early a c (front ++ f (get_or xs i d)) (flat_map f (drop (i + 1) xs)) (stops_then a b c front (f (get_or xs i d)) before stops))
+
+pub items_all : {X : Type 0} (f : X → List ℕ) (xs : List X) (i : ℕ) (a b : Stand) → length xs ≤ i → Moves a b (flat_map f (take i xs)) → Moves a b (flat_map f xs)
+items_all f xs i a b le moves =
+    let P : List ℕ → Type 0 = λ l. Moves a b l in
+    subst P (ap (flat_map f) (take_all i xs le)) moves
+
+-- the items that a list is seen as
+pub mapped_stopped : {X Y : Type 0} (f : Y → List ℕ) (h : X → Y) (xs : List X) (i : ℕ) (d : X) (a b c : Stand) → i < length xs → Moves a b (flat_map (λ x. f (h x)) (take i xs)) → Stops b c (f (h (get_or xs i d))) → Stops a c (flat_map f (map h xs))
+mapped_stopped f h xs i d a b c lt before stops =
+    let P : List ℕ → Type 0 = λ l. Stops a c l in
+    subst P (sym (flat_map-map f h xs)) (items_stopped (λ x. f (h x)) xs i d a b c lt before stops)
+
+pub mapped_all : {X Y : Type 0} (f : Y → List ℕ) (h : X → Y) (xs : List X) (i : ℕ) (a b : Stand) → length xs ≤ i → Moves a b (flat_map (λ x. f (h x)) (take i xs)) → Moves a b (flat_map f (map h xs))
+mapped_all f h xs i a b le moves =
+    let P : List ℕ → Type 0 = λ l. Moves a b l in
+    subst P (ap (flat_map (λ x. f (h x))) (take_all i xs le) ∙ sym (flat_map-map f h xs)) moves
+
+-- ## What the sink has in the end
+
+pub written_stopped : {T E : Type 0} (r : Result T E) (e : E) → r ≡ Err e → (a b : Stand) (text : List ℕ) → a.waiting ≡ [] → Stops a b text → WritesText a.written b.written r text
+written_stopped {T} {E} r e is a b text empty stops =
+    let P : Result T E → Type 0 = λ s. WritesText a.written b.written s text in
+    subst P (sym is) (wrote_front a b text empty stops)
+
+pub stopped_cause : {T E : Type 0} (r : Result T E) (e : E) → r ≡ Err e → (a b : Stand) (text : List ℕ) → Stops a b text → HasCause a.faults b.faults r
+stopped_cause {T} {E} r e is a b text stops =
+    let P : Result T E → Type 0 = λ s. OnErr s (Rose a.faults b.faults) in
+    record { later = stops.later; failed = subst P (sym is) stops.failed }
+
+pub written_flushed : {T E : Type 0} (r : Result T E) (a b c : Stand) (text : List ℕ) → a.waiting ≡ [] → Moves a b text → Puts r b c [] → OnOk r (c.waiting ≡ []) → WritesText a.written c.written r text
+written_flushed (Ok v) a b c text none put flush empty =
+    let P : List ℕ → Type 0 = λ l. Moves a c l in
+    wrote_all a c text none empty (subst P (append-nil text) (moves_then a b c text [] put flush))
+written_flushed (Err e) a b c text none put flush empty =
+    let P : List ℕ → Type 0 = λ l. Stops a c l in
+    wrote_front a c text none (subst P (append-nil text) (stops_then a b c text [] put flush))
+
+pub flushed_cause : {T E : Type 0} (r : Result T E) (a b c : Stand) (text : List ℕ) → Moves a b text → Puts r b c [] → HasCause a.faults c.faults r
+flushed_cause (Ok v) a b c text put flush = record { later = omega (arith, put.later, flush.later); failed = tt }
+flushed_cause (Err e) a b c text put flush = record { later = omega (arith, put.later, flush.later); failed = rose_later a.faults b.faults c.faults put.later flush.failed }
+
+-- four texts
+pub third_stopped : {T E : Type 0} (r : Result T E) (e : E) → r ≡ Err e → (a b c d : Stand) (x y z w : List ℕ) → Moves a b x → Moves b c y → Stops c d z → Puts r a d (((x ++ y) ++ z) ++ w)
+third_stopped r e is a b c d x y z w first second stops = second_stopped r e is a c d (x ++ y) z w (moves_then a b c x y first second) stops
+
+pub four_texts : {T E : Type 0} (r : Result T E) (s a b c d : Stand) (x y z w : List ℕ) → Moves s a x → Moves a b y → Moves b c z → Puts r c d w → Puts r s d (((x ++ y) ++ z) ++ w)
+four_texts r s a b c d x y z w first second third last = puts_then r s c d ((x ++ y) ++ z) w (moves_then s b c (x ++ y) z (moves_then s a b x y first second) third) last

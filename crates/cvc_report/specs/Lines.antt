@@ -6,9 +6,10 @@ use Rattle.std.specs.List.{flat_map}
 abbrev pub blank_before : List (List ℕ) → List ℕ
 blank_before words = flat_map (λ w. 32 ∷ w) words
 
-abbrev pub spaced : List (List ℕ) → List ℕ
-spaced [] = []
-spaced (word ∷ words) = word ++ blank_before words
+-- the end of a line, from a blank on
+abbrev pub line_end : List (List ℕ) → List ℕ
+line_end words = blank_before words ++ 10 ∷ []
 
 abbrev pub line : List (List ℕ) → List ℕ
-line words = spaced words ++ 10 ∷ []
+line [] = 10 ∷ []
+line (word ∷ words) = word ++ line_end words

@@ -1,7 +1,9 @@
 //! A writer that hands its bytes to a sink in large pieces.
-ghost use Rattle.std.specs.Prelude.{◌≡◌, ◌<◌, ◌≤◌, [], ◌++◌, take, length, OnOk};
+ghost use Rattle.std.specs.Prelude.{◌≡◌, ◌<◌, ◌≤◌, [], ◌∷◌, ◌++◌, take, length, map, OnOk};
 ghost use Rattle.arrayvec.specs.ArrayVec.{array_vec_len};
-ghost use Rattle.cvc_report.specs.Writing.{Puts, stand};
+ghost use Rattle.cvc_report.specs.Writing.{Puts, WritesText, stand};
+ghost use Rattle.cvc_io.specs.Causes.{HasCause};
+ghost use Rattle.cvc_report.specs.Lines.{blank_before, line_end, line};
 
 use arrayvec::ArrayVec;
 use cvc_io::{Sink, WriteFailed};
@@ -10,6 +12,7 @@ use cvc_io::{Sink, WriteFailed};
 const BUFFER: usize = 65_536;
 
 /// A sink, and the bytes that wait for it.
+#[derive(Drop)]
 pub(crate) struct Writer<'k, K: Sink> {
     sink: &'k mut K,
     waiting: ArrayVec<u8, BUFFER>,
@@ -79,5 +82,53 @@ impl<'k, K: Sink> Writer<'k, K> {
             done += fill(&mut self.waiting, &text[done..]);
         }
         Ok(())
+    }
+    // Puts a word behind a blank.
+    fn put_word(&mut self, word: &[u8]) -> Result<(), WriteFailed>
+        ensures same_sink { self.new.sink.ghost_name ≡ self.old.sink.ghost_name }
+        ensures put { Puts result (stand (K.written self.old.sink.now) self.old.waiting.items (K.faults self.old.sink.now)) (stand (K.written self.new.sink.now) self.new.waiting.items (K.faults self.new.sink.now)) (32 ∷ word.now) }
+    {
+        self.put(b" ")?;
+        self.put(word)
+    }
+
+    // Puts each word behind a blank.
+    fn put_words(&mut self, words: &[&[u8]]) -> Result<(), WriteFailed>
+        ensures same_sink { self.new.sink.ghost_name ≡ self.old.sink.ghost_name }
+        ensures put { Puts result (stand (K.written self.old.sink.now) self.old.waiting.items (K.faults self.old.sink.now)) (stand (K.written self.new.sink.now) self.new.waiting.items (K.faults self.new.sink.now)) (blank_before (map (λ w. w.now) words.now)) }
+    {
+        for word in words {
+            self.put_word(word)?;
+        }
+        Ok(())
+    }
+
+    /// Ends a line with these words, each behind a blank.
+    pub(crate) fn end_line(&mut self, words: &[&[u8]]) -> Result<(), WriteFailed>
+        ensures same_sink { self.new.sink.ghost_name ≡ self.old.sink.ghost_name }
+        ensures put { Puts result (stand (K.written self.old.sink.now) self.old.waiting.items (K.faults self.old.sink.now)) (stand (K.written self.new.sink.now) self.new.waiting.items (K.faults self.new.sink.now)) (line_end (map (λ w. w.now) words.now)) }
+    {
+        self.put_words(words)?;
+        self.put(b"\n")
+    }
+
+    /// Puts a line of these words, with a blank between each two.
+    pub(crate) fn put_line(&mut self, first: &[u8], others: &[&[u8]]) -> Result<(), WriteFailed>
+        ensures same_sink { self.new.sink.ghost_name ≡ self.old.sink.ghost_name }
+        ensures put { Puts result (stand (K.written self.old.sink.now) self.old.waiting.items (K.faults self.old.sink.now)) (stand (K.written self.new.sink.now) self.new.waiting.items (K.faults self.new.sink.now)) (line (first.now ∷ map (λ w. w.now) others.now)) }
+    {
+        self.put(first)?;
+        self.end_line(others)
+    }
+
+    /// Writes a text of this one line.
+    pub(crate) fn write_line(&mut self, first: &[u8], others: &[&[u8]]) -> Result<(), WriteFailed>
+        requires { self.old.waiting.items ≡ [] }
+        ensures same_sink { self.new.sink.ghost_name ≡ self.old.sink.ghost_name }
+        ensures written { WritesText (K.written self.old.sink.now) (K.written self.new.sink.now) result (line (first.now ∷ map (λ w. w.now) others.now)) }
+        ensures cause { HasCause (K.faults self.old.sink.now) (K.faults self.new.sink.now) result }
+    {
+        self.put_line(first, others)?;
+        self.flush()
     }
 }
