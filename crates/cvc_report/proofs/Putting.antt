@@ -8,7 +8,7 @@ use Rattle.std.proofs.lemmas.List.Concat.{flat_map-append}
 use Rattle.std.proofs.lemmas.List.Folds.{flat_map-map}
 use Rattle.std.proofs.Math.Seq.{take-add}
 use Rattle.cvc_io.specs.Causes.{Rose, HasCause}
-use Rattle.cvc_report.specs.Writing.{Stand, stand, Moves, Stops, Puts, WritesText}
+use Rattle.cvc_report.specs.Writing.{Stand, stand, Moves, Stops, Puts, WritesPart, WritesText}
 
 twice_known : (before : Option (List ℕ)) (x y : List ℕ) → append_known (append_known before x) y ≡ append_known before (x ++ y)
 twice_known None x y = refl
@@ -121,12 +121,13 @@ wrote_all a b text none empty moves =
     let whole : text ≡ moves.taken = ap (λ (l : List ℕ). l ++ text) (sym none) ∙ moves.kept ∙ ap (λ (l : List ℕ). moves.taken ++ l) empty ∙ append-nil moves.taken in
     moves.grown ∙ ap (append_known a.written) (sym whole)
 
-pub wrote_front : (a b : Stand) (text : List ℕ) → a.waiting ≡ [] → Stops a b text → (k : ℕ) × (k ≤ length text) × (b.written ≡ append_known a.written (take k text))
-wrote_front a b text none stops =
-    let n = length stops.taken in
-    let whole : text ≡ stops.taken ++ stops.rest = ap (λ (l : List ℕ). l ++ text) (sym none) ∙ stops.kept in
-    let front : take n text ≡ stops.taken = ap (take n) whole ∙ take-append-le n stops.taken stops.rest (omega arith) ∙ take_all n stops.taken (omega arith) in
-    (n, omega (arith, ap length whole, length-append stops.taken stops.rest), stops.grown ∙ ap (append_known a.written) (sym front))
+pub wrote_front : (a b : Stand) (text : List ℕ) → a.waiting ≡ [] → Stops a b text → WritesPart a.written b.written text
+wrote_front a b text none stops = record {
+  part = stops.taken;
+  rest = stops.rest;
+  whole = ap (λ (l : List ℕ). l ++ text) (sym none) ∙ stops.kept;
+  written = stops.grown;
+}
 
 -- ## Filling
 

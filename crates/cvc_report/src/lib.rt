@@ -9,3 +9,6 @@ mod writer;
 
 pub use refusal::{write_refusal, write_word_refusal};
 pub use summary::write_summary;
+
+#[cfg(test)]
+mod tests;
