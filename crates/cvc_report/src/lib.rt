@@ -1,0 +1,14 @@
+//! The printed texts of a check: refusal lines, summaries and reports, written to a sink in large pieces. No call takes memory.
+#![tactic(auto)]
+
+mod counts;
+mod printed;
+mod refusal;
+mod summary;
+mod writer;
+
+pub use refusal::{write_refusal, write_word_refusal};
+pub use summary::write_summary;
+
+#[cfg(test)]
+mod tests;
