@@ -79,7 +79,7 @@ module _ (c : Network) (s : Machine) (ok : Sound c s) (none : s.count ≡ 0) whe
   abbrev Stays : Machine → Type 0
   Stays t = (t.bounds ≡ s.bounds) × (t.marks ≡ s.marks) × (t.count ≡ s.count)
 
-  step_stays : (k : ℕ) (i : Intent) (a : Actor) → actor_at s k ≡ a → IsAllowed c i a (found s (place_of c i a)) → Stays (step_by c s k i a)
+  pub step_stays : (k : ℕ) (i : Intent) (a : Actor) → actor_at s k ≡ a → IsAllowed c i a (found s (place_of c i a)) → Stays (step_by c s k i a)
   step_stays k (Read i) (Running r) e h = absurd (nobody_at k r e)
   step_stays k (Read i) Absent e h = absurd h
   step_stays k (Read i) (Idle n) e h = absurd h
