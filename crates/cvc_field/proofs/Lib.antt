@@ -1,0 +1,11 @@
+pub mod Trails
+pub mod Stepping
+pub mod Splitting
+pub mod Opens
+pub mod Closing
+pub mod Meaning
+pub mod Operands
+pub mod Bounds
+pub mod Parts
+pub mod Going
+pub mod Loading

@@ -1,0 +1,110 @@
+-- The words at the start are a sound field.
+use Rattle.std.proofs.Common.{add-one, append_assoc, take, ◌≡◌, ℕ, zero, suc, ◌+◌, ◌*◌, ◌/◌, ◌-◌, ◌%◌, ◌<◌, ◌≤◌, false, List, [], ◌∷◌, ◌++◌, length, slice_index, slice_index_or, get_or, Option, Some, None, replicate, arith, ap, refl, sym, subst, ◌∙◌, length-append, true≢false}
+use Rattle.std.specs.Prelude.{ℤ, IfSome}
+use Rattle.std.proofs.lemmas.List.{length-replicate, get_or_append_left}
+use mathlib.Core.Option.{some, some-injective, some-ne-none}
+use lib.ListN.{get_elem?}
+use Rattle.atomic_table.specs.Table.{opening}
+use Rattle.cvc_law.specs.declared.interval.Fixed.{Fixed}
+use Rattle.cvc_law.specs.Network.{Network, devices, fixed_at, floor_of, ceiling_of, IsCircuit}
+use Rattle.cvc_law.specs.Family.{IsInRange}
+use Rattle.cvc_law.specs.Reach.{width, bound_on, bound_of, reach_on, declared_interval, declared_reach}
+use Rattle.cvc_law.specs.ReachWord.{stored, IsInMillion}
+use Rattle.cvc_law.proofs.ReachPlaces.{declared_in_range}
+use Rattle.cvc_law.proofs.ReachValues.{low_of_low, high_of_high}
+use Rattle.cvc_core.specs.declared.actor.Actor.TheVariants.{Absent, Idle}
+use Rattle.cvc_core.specs.State.{Place, CountWord, BoundWord, MarkWord, found}
+use Rattle.cvc_core.specs.Steps.{IsPresent}
+use Rattle.cvc_core.specs.Start.{start}
+use Rattle.cvc_core.proofs.Starting.{start_sound, start_at, start_unknown}
+use Rattle.cvc_field.specs.declared.view.View.{View}
+use Rattle.cvc_field.specs.Words.{word_index, word_at}
+use Rattle.cvc_field.specs.Views.{first_view}
+use Rattle.cvc_field.specs.Words.{IsPlace}
+use Rattle.cvc_field.specs.Field.{ViewFits, IsSoundField, Somewhere}
+use Rattle.cvc_field.specs.Words.{word_row, start_words}
+
+length-word_row : (xs : List (Option Fixed)) → length (word_row xs) ≡ 2 * length xs
+length-word_row [] = refl
+length-word_row (x ∷ xs) = let r = length-word_row xs in omega arith
+
+row_at : (xs : List (Option Fixed)) (b : ℕ) → b < 2 * length xs → slice_index (word_row xs) b ≡ stored (b % 2) (bound_on (b % 2) (declared_interval (slice_index_or xs (b / 2) None)))
+row_at [] b lt = absurd (omega arith)
+row_at (x ∷ xs) zero lt = refl
+row_at (x ∷ xs) (suc zero) lt = refl
+row_at (x ∷ xs) (suc (suc b)) lt = let side : suc (suc b) % 2 ≡ b % 2 = omega arith in let net : suc (suc b) / 2 ≡ suc (b / 2) = omega arith in rw (side, net) (row_at xs b (omega arith))
+
+-- a declared bound is that of its reach
+declared_back : (c : Network) (o : Option Fixed) → ((w : Fixed) → o ≡ Some w → IsInRange c w.low × IsInRange c w.high) → (side : ℕ) → bound_of c side (reach_on c side (declared_interval o)) ≡ bound_on side (declared_interval o)
+declared_back c None h zero = low_of_low (floor_of c) (ceiling_of c) None tt
+declared_back c None h (suc n) = high_of_high (floor_of c) (ceiling_of c) None tt
+declared_back c (Some w) h zero = low_of_low (floor_of c) (ceiling_of c) (Some w.low) (h w refl).0
+declared_back c (Some w) h (suc n) = high_of_high (floor_of c) (ceiling_of c) (Some w.high) (h w refl).1
+
+past : (l m : List ℕ) (n d : ℕ) → length l ≡ n → slice_index (l ++ m) (n + d) ≡ slice_index m d
+past [] m n d e = let z : n + d ≡ d = omega arith in ap (slice_index m) z
+past (x ∷ xs) m zero d e = absurd (omega arith)
+past (x ∷ xs) m (suc n) d e = let z : suc n + d ≡ suc (n + d) = omega arith in rw z (past xs m n d (omega arith))
+
+start_bound : (c : Network) (hands b : ℕ) → IsCircuit c.fixed c.devices → stored (b % 2) (bound_on (b % 2) (declared_interval (fixed_at c (b / 2)))) ≡ word_at c (BoundWord b) (slice_index (start c hands).bounds b)
+start_bound c hands b circuit = ap (stored (b % 2)) (sym (declared_back c (fixed_at c (b / 2)) (declared_in_range c circuit (b / 2)) (b % 2)) ∙ ap (bound_of c (b % 2)) (sym (start_at c hands b)))
+
+start_word : (c : Network) (hands : ℕ) (q : Place) → IsCircuit c.fixed c.devices → IsPlace c q → slice_index (start_words c) (word_index c q) ≡ word_at c q (found (start c hands) q)
+unfolding start
+start_word c hands CountWord circuit is = refl
+start_word c hands (BoundWord b) circuit is = let z : 1 + b ≡ suc b = omega arith in let long = length-word_row c.fixed in
+    rw z (get_or_append_left (word_row c.fixed) (replicate (devices c) 1) 0 b (omega arith) ∙ row_at c.fixed b is) ∙ start_bound c hands b circuit
+start_word c hands (MarkWord d) circuit is = let z : 1 + width c + d ≡ suc (width c + d) = omega arith in
+    rw z (past (word_row c.fixed) (replicate (devices c) 1) (width c) d (length-word_row c.fixed))
+
+only_one : (v u : View) (j : ℕ) → get_elem? (v ∷ []) j ≡ some u → (j ≡ 0) × (v ≡ u)
+only_one v u zero e = (refl, some-injective v u e)
+only_one v u (suc j) e = absurd (some-ne-none u (sym e))
+
+replicate_absent : (n k : ℕ) → IsPresent (get_or (replicate n Absent) k Absent) → ⊥
+replicate_absent zero k h = h
+replicate_absent (suc n) zero h = h
+replicate_absent (suc n) (suc k) h = replicate_absent n k h
+
+first_seat : (v : View) (hands k : ℕ) → v.spent ≡ false → v.first ≡ 0 → IsPresent (get_or (Idle 0 ∷ replicate (hands - 1) Absent) k Absent) → Somewhere (v ∷ []) (λ u. u.first ≡ k)
+first_seat v hands zero live first present = (0, v, refl, live, first)
+first_seat v hands (suc k) live first present = absurd (replicate_absent (hands - 1) k present)
+
+pub opens : (c : Network) (hands : ℕ) → IsCircuit c.fixed c.devices → IsInMillion c → 0 < hands → hands ≤ 64 → IsSoundField c hands (opening (start_words c) [] (first_view c hands))
+unfolding start
+opens c hands circuit range some_hand few = let v : View = first_view c hands in record {
+  machine = start c hands;
+  sound = start_sound c hands circuit few;
+  range = range;
+  actors = let n = length-replicate (hands - 1) Absent in omega arith;
+  words = let a = length-append (word_row c.fixed) (replicate (devices c) 1) in let b = length-word_row c.fixed in let one : ℕ = 1 in let d : length (replicate (devices c) one) ≡ devices c = length-replicate (devices c) one in omega arith;
+  word_is = λ q is. start_word c hands q circuit is;
+  owner = λ k. 0;
+  each = λ j u e live. let t = only_one v u j e in subst (λ (z : ℕ × View). ViewFits c hands (start c hands) (λ k. 0) z.0 z.1) (λ k. (sym t.0 k, t.1 k)) record {
+    some_number = some_hand;
+    within = omega arith;
+    owns = λ k a b. refl;
+    actor = refl;
+    covers = tt;
+    quiet = λ h. absurd (true≢false (sym h));
+  };
+  seated = λ k present. first_seat v hands k refl refl present;
+  given = λ b free known. absurd (let none = start_unknown c hands b free in omega arith);
+}
+
+pub length-start_words : (c : Network) → length (start_words c) ≡ 1 + width c + devices c
+length-start_words c = let one : ℕ = 1 in let a = length-append (word_row c.fixed) (replicate (devices c) one) in let b = length-word_row c.fixed in let d : length (replicate (devices c) one) ≡ devices c = length-replicate (devices c) one in omega arith
+
+-- one more net
+pub row_more : (xs : List (Option Fixed)) (i : ℕ) → i < length xs → word_row (take (suc i) xs) ≡ word_row (take i xs) ++ stored 0 (bound_on 0 (declared_interval (slice_index_or xs i None))) ∷ stored 1 (bound_on 1 (declared_interval (slice_index_or xs i None))) ∷ []
+row_more [] i lt = absurd (omega arith)
+row_more (x ∷ xs) zero lt = refl
+row_more (x ∷ xs) (suc i) lt = ap (λ (l : List ℕ). stored 0 (bound_on 0 (declared_interval x)) ∷ stored 1 (bound_on 1 (declared_interval x)) ∷ l) (row_more xs i (omega arith))
+
+grouped : (a w : List ℕ) (x y : ℕ) → ((a ++ w) ++ x ∷ []) ++ y ∷ [] ≡ a ++ (w ++ x ∷ (y ∷ []))
+grouped a w x y = simp append_assoc
+
+pub row_pushed : (l1 l2 l3 : List ℕ) (count : ℕ) (xs : List (Option Fixed)) (i low high : ℕ) → i < length xs → l1 ≡ count ∷ word_row (take i xs) → low ≡ stored 0 (bound_on 0 (declared_interval (slice_index_or xs i None))) → high ≡ stored 1 (bound_on 1 (declared_interval (slice_index_or xs i None)))
+    → l2 ≡ l1 ++ low ∷ [] → l3 ≡ l2 ++ high ∷ [] → l3 ≡ count ∷ word_row (take (i + 1) xs)
+row_pushed l1 l2 l3 count xs i low high lt a b d e f =
+    f ∙ ((λ k. (e ∙ (λ j. a j ++ b j ∷ [])) k ++ d k ∷ []) ∙ rw (add-one, row_more xs i lt) (grouped (count ∷ []) (word_row (take i xs)) (stored 0 (bound_on 0 (declared_interval (slice_index_or xs i None)))) (stored 1 (bound_on 1 (declared_interval (slice_index_or xs i None))))))
