@@ -17,6 +17,3 @@ mod words;
 
 pub use card::{Card, CellCard, DeviceCard, InstCard, Letter, Ports};
 pub use read::read_card;
-
-#[cfg(test)]
-mod tests;

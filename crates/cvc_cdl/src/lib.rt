@@ -17,6 +17,3 @@ mod text;
 pub use builder::Builder;
 pub use netlist::{Cell, Cells, Global, Globals, Item, Items, Netlist};
 pub use text::netlist_text;
-
-#[cfg(test)]
-mod tests;

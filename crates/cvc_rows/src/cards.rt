@@ -1,7 +1,7 @@
-use super::*;
 use cvc_base::{
     Cause, Fault, FileKind, Line, NoMemory, Pairs, Place, Refusal, Text, Token, Tokens,
 };
+use cvc_card::{Card, Letter, Ports, read_card};
 use std::alloc::Global;
 use std::test::Fail;
 
