@@ -94,10 +94,7 @@ impl Store {
             run.credits - 1
         };
         let owes = next_debt(circuit, debt);
-        self.marks[d.0 as usize] = Mark {
-            queued: true,
-            running: mark.running,
-        };
+        self.marks[d.0 as usize] = mark.with_queued();
         self.actors[usize::from(k)] = Actor::Running(marked(run, owes, credits));
         true
     }
