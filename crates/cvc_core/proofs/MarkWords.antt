@@ -17,12 +17,6 @@ use Rattle.cvc_core.specs.Store.{mark_word}
 abbrev word : Bool → Bool → ℕ
 word q r = cond q 1 0 + cond r 2 0
 
-word_queued : (q r : Bool) → word true r ≡ queued (word q r)
-word_queued true true = refl
-word_queued true false = refl
-word_queued false true = refl
-word_queued false false = refl
-
 word_dropped : (q r : Bool) → word q false ≡ word q r % 2
 word_dropped true true = refl
 word_dropped true false = refl
@@ -49,15 +43,15 @@ module _ (c : Network) (bounds : List ℕ) (marks : List Mark) (count : ℕ) (ac
   abbrev then_owing : Run → Option Debt → ℕ → Run
   then_owing r owes credits = record { device = r.device; reads = r.reads; given = r.given; owes = owes; credits = credits }
 
-  pub queue_effect : (r : Run) (debt : Debt) (d : ℕ) (m : Mark) (owes : Option Debt) (credits : ℕ) → r.owes ≡ Some debt → d ≡ slice_index (fan_of c debt.net.0) debt.place → mark_word m ≡ slice_index words d
+  pub queue_effect : (r : Run) (debt : Debt) (d : ℕ) (m after : Mark) (owes : Option Debt) (credits : ℕ) → r.owes ≡ Some debt → d ≡ slice_index (fan_of c debt.net.0) debt.place → mark_word m ≡ slice_index words d → mark_word after ≡ queued (mark_word m)
       → owes ≡ next_debt c debt → credits ≡ cond m.queued r.credits (r.credits - 1)
-      → to (map mark_word (set marks d record { queued = true; running = m.running })) (Running (then_owing r owes credits)) ≡ step_by c before k Queue (Running r)
-  queue_effect r debt d m owes credits is at mark owes_is credits_is =
+      → to (map mark_word (set marks d after)) (Running (then_owing r owes credits)) ≡ step_by c before k Queue (Running r)
+  queue_effect r debt d m after owes credits is at mark after_is owes_is credits_is =
       let same : debt_of r.owes ≡ debt = ap debt_of is in
       let next : d ≡ next_device c r = at ∙ ap (λ (z : Debt). slice_index (fan_of c z.net.0) z.place) (sym same) in
       let found_is : mark_word m ≡ slice_index words (next_device c r) = mark ∙ ap (slice_index words) next in
-      let new_marks : map mark_word (set marks d record { queued = true; running = m.running }) ≡ set words (next_device c r) (queued (slice_index words (next_device c r))) =
-      map-set mark_word marks d record { queued = true; running = m.running } ∙ (ap (set words d) (word_queued m.queued m.running ∙ ap queued found_is) ∙ ap (λ (z : ℕ). set words z (queued (slice_index words (next_device c r)))) next) in
+      let new_marks : map mark_word (set marks d after) ≡ set words (next_device c r) (queued (slice_index words (next_device c r))) =
+      map-set mark_word marks d after ∙ (ap (set words d) (after_is ∙ ap queued found_is) ∙ ap (λ (z : ℕ). set words z (queued (slice_index words (next_device c r)))) next) in
       let new_owes : owes ≡ next_debt c (debt_of r.owes) = owes_is ∙ ap (next_debt c) (sym same) in
       let new_credits : credits ≡ cond (is_queued (slice_index words (next_device c r))) r.credits (r.credits - 1) =
       credits_is ∙ ap (λ (b : Bool). cond b r.credits (r.credits - 1)) (sym (word_says m.queued m.running) ∙ ap is_queued found_is) in

@@ -1,7 +1,6 @@
 -- A step that is tried on a store: what its parts need, and that it did what it is to do.
 use Rattle.std.proofs.Common.{◌≡◌, ℕ, ◌<◌, Bool, true, false, cond, nat_lt, max, List, length, set, get_or, Option, Some, None, arith, ap, refl, sym, subst, ◌∙◌, true≢false}
 use Rattle.std.specs.Prelude.{slice_index, slice_set}
-use Rattle.std.specs.Bool.{then_some}
 use Rattle.std.proofs.lemmas.List.{set-get_or}
 use Rattle.std.proofs.lemmas.Grind.{get_or_default_zero}
 use Rattle.cvc_base.specs.declared.ids.NetId.{NetId}
@@ -128,20 +127,16 @@ read_effect c s k i x r is = let b : ℕ = read_place (device_of c r) i in
     ap (λ (z : ℕ). record { bounds = s.bounds; marks = s.marks; count = s.count; actors = set s.actors k (Running (loaded i z r)) }) is
     ∙ ap (λ (f : List ℕ). record { bounds = f; marks = s.marks; count = s.count; actors = set s.actors k (Running (loaded i (slice_index s.bounds b) r)) }) (sym (set-get_or s.bounds b 0))
 
-then_some_is : (b : Bool) (x : Debt) → then_some b x ≡ cond b (Some x) None
-then_some_is true x = refl
-then_some_is false x = refl
-
 abbrev then_owing : Run → ℕ → Option Debt → Run
 then_owing r j owes = record { device = r.device; reads = r.reads; given = slice_set r.given j true; owes = owes; credits = r.credits }
 
 pub widen_effect : (c : Network) (s : Machine) (k j bound before reach most : ℕ) (net : NetId) (r : Run) (owes : Option Debt)
-    → net.0 ≡ target (device_of c r) j → bound ≡ target_place (device_of c r) j → before ≡ slice_index s.bounds (target_place (device_of c r) j) → reach ≡ offer c r j → most ≡ max before reach → owes ≡ then_some (nat_lt before reach) record { net = net; place = 0 }
+    → net.0 ≡ target (device_of c r) j → bound ≡ target_place (device_of c r) j → before ≡ slice_index s.bounds (target_place (device_of c r) j) → reach ≡ offer c r j → most ≡ max before reach → owes ≡ cond (nat_lt before reach) (Some record { net = net; place = 0 }) None
     → record { bounds = set s.bounds bound most; marks = s.marks; count = s.count; actors = set s.actors k (Running (then_owing r j owes)) } ≡ step_by c s k (Widen j) (Running r)
 widen_effect c s k j bound before reach most net r owes at place was gives most_is owes_is =
     let net_is : net ≡ record { 0 = target (device_of c r) j } = ap (λ (n : ℕ). record { 0 = n }) at in
     let to : List ℕ → Option Debt → Machine = λ f o. record { bounds = f; marks = s.marks; count = s.count; actors = set s.actors k (Running (then_owing r j o)) } in
     let bounds_are : set s.bounds bound most ≡ set s.bounds (target_place (device_of c r) j) (max (slice_index s.bounds (target_place (device_of c r) j)) (offer c r j)) = rw (most_is, place, was, gives) refl in
     let owed : owes ≡ cond (nat_lt (slice_index s.bounds (target_place (device_of c r) j)) (offer c r j)) (Some record { net = record { 0 = target (device_of c r) j }; place = 0 }) None =
-    owes_is ∙ (then_some_is (nat_lt before reach) record { net = net; place = 0 } ∙ rw (was, gives, net_is) refl) in
+    owes_is ∙ rw (was, gives, net_is) refl in
     ap (λ (f : List ℕ). to f owes) bounds_are ∙ ap (to (set s.bounds (target_place (device_of c r) j) (max (slice_index s.bounds (target_place (device_of c r) j)) (offer c r j)))) owed

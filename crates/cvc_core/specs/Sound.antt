@@ -30,7 +30,7 @@ pub record IsStateOf (c : Network) (s : Machine) : Type 0 where
   pub runs : (k : ℕ) → IfRunning (actor_at s k) (IsRunOf c)
 
 -- ---- the first part: declared nets have their declared bounds, and every known bound and every held read lies from the floor to the ceiling
-pub record IsInRange (c : Network) (s : Machine) : Type 0 where
+pub record IsStateInRange (c : Network) (s : Machine) : Type 0 where
   pub bounds : IsReachFamily c s.bounds
   pub reads : (k : ℕ) → IfRunning (actor_at s k) (λ r. (i : ℕ) → held r i ≤ widest c)
 
@@ -109,7 +109,7 @@ AreRunsWatched c s = (k : ℕ) → IfRunning (actor_at s k) (IsWatched c s)
 -- ---- all of them
 pub record Sound (c : Network) (s : Machine) : Type 0 where
   pub form : IsStateOf c s
-  pub in_range : IsInRange c s
+  pub in_range : IsStateInRange c s
   pub within : IsWithinClosed c s.bounds
   pub reads_within : ReadsAreWithin c s
   pub runs_marked : AreRunsMarked c s

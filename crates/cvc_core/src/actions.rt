@@ -8,11 +8,11 @@ ghost use Rattle.cvc_core.specs.Sound.{Sound};
 ghost use Rattle.cvc_core.specs.Store.{machine_of};
 ghost use Rattle.cvc_core.specs.Tried.{IsStepTried};
 
-use crate::guards::{may_read, may_release, may_widen};
+use crate::Actor;
+use crate::guards::{has_spare_credit, may_read, may_release, may_widen};
 use crate::offers::offer;
-use crate::runs::{begun, given, loaded, marked, next_debt, next_device, with_credits};
+use crate::runs::{begun, given, loaded, marked, new_debt, next_debt, next_device, with_credits};
 use crate::store::{Mark, Store};
-use crate::{Actor, Debt};
 use cvc_base::DevId;
 use cvc_law::Circuit;
 
@@ -50,7 +50,7 @@ impl Store {
         let net = device.target(slot);
         let bound = device.target_place(slot);
         let before = self.bounds[bound];
-        let owes = (before < reach).then_some(Debt { net, place: 0 });
+        let owes = new_debt(net, before, reach);
         self.bounds[bound] = before.max(reach);
         self.actors[usize::from(k)] = Actor::Running(given(run, slot, owes));
         true
@@ -94,10 +94,7 @@ impl Store {
             run.credits - 1
         };
         let owes = next_debt(circuit, debt);
-        self.marks[d.0 as usize] = Mark {
-            queued: true,
-            running: mark.running,
-        };
+        self.marks[d.0 as usize] = mark.with_queued();
         self.actors[usize::from(k)] = Actor::Running(marked(run, owes, credits));
         true
     }
@@ -163,7 +160,7 @@ impl Store {
                 self.actors[usize::from(k)] = Actor::Idle(credits - 1);
                 true
             }
-            Actor::Running(run) if run.credits == 2 => {
+            Actor::Running(run) if has_spare_credit(&run) => {
                 self.count -= 1;
                 self.actors[usize::from(k)] = Actor::Running(with_credits(run, run.credits - 1));
                 true

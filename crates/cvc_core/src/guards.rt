@@ -71,6 +71,13 @@ fn all_settled(circuit: &Circuit, run: &Run) -> bool
     true
 }
 
+/// Whether the run has a credit more than it needs.
+pub(crate) fn has_spare_credit(run: &Run) -> bool
+    ensures { IsTrue result ↔ (run.now.credits ≡ 2) }
+{
+    run.credits == 2
+}
+
 /// Whether a read is one that is to be loaded now.
 pub(crate) fn may_read(circuit: &Circuit, run: &Run, read: u8) -> bool
     requires { IsReady circuit.now run.now }

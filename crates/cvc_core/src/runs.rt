@@ -1,10 +1,10 @@
 //! How the run of an actor goes on.
-ghost use Rattle.std.specs.Prelude.{◌≡◌, ◌<◌, length, slice_set, slice_index, true};
+ghost use Rattle.std.specs.Prelude.{◌≡◌, ◌<◌, length, slice_set, slice_index, true, Some, None, nat_lt, if◌then◌else◌};
 ghost use Rattle.cvc_law.specs.Network.{nets, fan_of};
 ghost use Rattle.cvc_core.specs.Steps.{loaded, with_credits, begun, next_debt};
 
 use crate::{Debt, Run};
-use cvc_base::DevId;
+use cvc_base::{DevId, NetId};
 use cvc_law::Circuit;
 
 /// A run that begins: nothing loaded, given or owed, and one credit.
@@ -39,6 +39,13 @@ pub(crate) fn given(run: Run, slot: u8, owes: Option<Debt>) -> Run
     run.given[usize::from(slot)] = true;
     run.owes = owes;
     run
+}
+
+/// What an actor owes when it found a bound at one reach and gave it another: the fan of the net, if that is wider.
+pub(crate) fn new_debt(net: NetId, before: u32, reach: u32) -> Option<Debt>
+    ensures { result ≡ (if nat_lt before reach then Some record { net = net; place = 0 } else None) }
+{
+    (before < reach).then_some(Debt { net, place: 0 })
 }
 
 /// The run with other credits.

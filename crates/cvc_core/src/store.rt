@@ -17,13 +17,23 @@ pub struct Mark {
 }
 
 impl Mark {
-    ghost use Rattle.cvc_core.specs.Steps.{plain_queued};
+    ghost use Rattle.cvc_core.specs.Steps.{plain_queued, queued};
 
     /// Whether the device is to be run and nobody runs it.
     pub(crate) fn is_plain_queued(self) -> bool
         ensures { IsTrue result ↔ (mark_word self ≡ plain_queued) }
     {
         self.queued && !self.running
+    }
+
+    /// The mark when the device is to be run, whether somebody runs it now or not.
+    pub(crate) fn with_queued(self) -> Mark
+        ensures { mark_word result ≡ queued (mark_word self) }
+    {
+        Mark {
+            queued: true,
+            running: self.running,
+        }
     }
 }
 

@@ -11,6 +11,7 @@ use std::alloc::Global;
 use std::test::Fail;
 
 /// A card: its kind, the nets of its pins, and its model's threshold or drop in millivolts.
+/// A threshold is that of the corner that conducts most; at the other corner it is 200 mV more, which changes no bound.
 #[derive(Clone, Copy)]
 struct Card {
     kind: Kind,
@@ -54,13 +55,14 @@ fn is_mos(kind: Kind) -> bool {
 fn device_of(card: Card) -> Option<Device> {
     let zero = Mv::new(0)?;
     let volt = Mv::new(card.volt)?;
+    let weak = Mv::new(volt.get() + 200)?;
     let mut pins = ArrayVec::new();
     for n in &card.pins[..pin_count(card.kind)] {
         pins.try_push(NetId(*n)).ok()?;
     }
     let volts = Volts {
         threshold: if is_mos(card.kind) { volt } else { zero },
-        weak: if is_mos(card.kind) { volt } else { zero },
+        weak: if is_mos(card.kind) { weak } else { zero },
         drop: if is_mos(card.kind) { zero } else { volt },
         junction: zero,
         vgs: None,

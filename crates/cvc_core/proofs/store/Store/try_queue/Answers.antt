@@ -26,6 +26,6 @@ index_mut-requires c = let h = run_due_marked c.args.circuit.now (machine_of c.a
 
 pub returns : goal.returns
 returns c = run_done c.args.circuit.now (machine_of c.args.self.now) _ c.args.k Queue c.in-Some.run' c.in-Some.ensures (ap is_some c.in-Some-owes.is, omega arith)
-    (rw (c.from.ensures, c.marked.ensures) (queue_effect c.args.circuit.now c.args.self.now.bounds.items c.args.self.now.marks.items c.args.self.now.count c.args.self.now.actors.items c.args.k c.in-Some.run' c.in-Some-owes.debt c.next_device-d.result.0 c.mark-mark.result c.next_debt-owes.result _
-    c.in-Some-owes.is c.next_device-d.ensures c.mark-mark.ensures c.next_debt-owes.ensures
+    (rw (c.from.ensures, c.marked.ensures) (queue_effect c.args.circuit.now c.args.self.now.bounds.items c.args.self.now.marks.items c.args.self.now.count c.args.self.now.actors.items c.args.k c.in-Some.run' c.in-Some-owes.debt c.next_device-d.result.0 c.mark-mark.result c.with_queued.result c.next_debt-owes.result _
+    c.in-Some-owes.is c.next_device-d.ensures c.mark-mark.ensures c.with_queued.ensures c.next_debt-owes.ensures
     (elim c.if-mark.branch [ then-mark w ↦ rw w.if-mark.true w.credits-is | else-mark w ↦ rw w.if-mark.false w.credits-is ])))

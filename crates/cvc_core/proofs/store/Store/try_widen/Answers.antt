@@ -21,7 +21,7 @@ returns c =
     let r = c.in-Some.run' in
     let place : c.target_place-bound.result ≡ target_place (device_at c.args.circuit.now r.device.0) c.args.slot = c.target_place-bound.ensures.place ∙ ap (λ (e : Device). target_place e c.args.slot) c.device-device.ensures.same in
     run_done c.args.circuit.now (machine_of c.args.self.now) _ c.args.k (Widen c.args.slot) r c.in-Some.ensures (c.if-not-may_widen.ensures.0 refl)
-    (rw (c.from.ensures, c.given.ensures) (widen_effect c.args.circuit.now (machine_of c.args.self.now) c.args.k c.args.slot c.target_place-bound.result c.index-before.result.now c.offer-reach.result c.max.result c.target-net.result r c.then_some-owes.result
+    (rw (c.from.ensures, c.given.ensures) (widen_effect c.args.circuit.now (machine_of c.args.self.now) c.args.k c.args.slot c.target_place-bound.result c.index-before.result.now c.offer-reach.result c.max.result c.target-net.result r c.new_debt-owes.result
     (c.target-net.ensures.net ∙ ap (λ (e : Device). target e c.args.slot) c.device-device.ensures.same) place
     (index_is c.args.self.now.bounds.items _ c.target_place-bound.result c.index-before.result.now (run_target_within c.args.circuit.now (machine_of c.args.self.now) c.args.k r c.requires c.in-Some.ensures c.args.slot) place c.index-before.ensures)
-    c.offer-reach.ensures c.max.ensures c.then_some-owes.ensures))
+    c.offer-reach.ensures c.max.ensures c.new_debt-owes.ensures))
