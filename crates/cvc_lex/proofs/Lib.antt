@@ -8,3 +8,4 @@ pub mod LineEnds
 pub mod Readings
 pub mod Handing
 pub mod Finding
+pub mod Comments
