@@ -1,7 +1,6 @@
 -- Comments that go on read the same as short ones.
-use Rattle.std.proofs.Common.{◌≡◌, ℕ, zero, suc, ◌+◌, ◌-◌, ◌<◌, ◌≤◌, List, [], ◌∷◌, ◌++◌, length, take, drop, get_or, Bool, true, false, cond, not, ◌&&◌, ◌||◌, ◌==◌, refl, sym, ap, subst, ◌∙◌, arith, inl, inr, ◌⊎◌}
+use Rattle.std.proofs.Common.{◌≡◌, ℕ, zero, suc, ◌+◌, ◌-◌, ◌<◌, ◌≤◌, List, [], ◌∷◌, ◌++◌, length, take, drop, get_or, Bool, true, false, cond, not, ◌||◌, ◌==◌, refl, sym, ap, subst, ◌∙◌, arith, inl, inr}
 use Rattle.std.specs.List.{list_any, prefix_len, position_or_len, before_first}
-use Rattle.std.specs.Prelude.{slice_index}
 use Rattle.std.proofs.lemmas.Bool.{cases_Bool, cases_lt, and_parts, eqb-true, not-true}
 use Rattle.std.proofs.lemmas.Bool.Decides.{nat_tests}
 use Rattle.std.proofs.lemmas.List.{take_all, take_more, take_rest, get_or-take, length-take-le, append_assoc}
@@ -9,12 +8,11 @@ use Rattle.cvc_lex.proofs.Texts.{unindented_is}
 use Rattle.std.proofs.lemmas.List.Folds.{list_any-append}
 use Rattle.std.proofs.lemmas.List.Sums.{prefix_len_passes, fails_before_first}
 use Rattle.cvc_base.specs.declared.fault.FileKind.{FileKind}
-use Rattle.cvc_lex.specs.declared.shape.Shape.{Shape}
-use Rattle.cvc_lex.specs.declared.shape.Shape.TheVariants.{Skipped, Directive, Card, Continuation}
+use Rattle.cvc_lex.specs.declared.shape.Shape.TheVariants.{Skipped}
 use Rattle.cvc_lex.specs.Bytes.{is_netlist, is_blank, is_bad}
 use Rattle.cvc_lex.specs.Comments.{card_comment, row_comment, begins_comment, IsShort}
 use Rattle.cvc_lex.specs.Lexing.{ReadsAs}
-use Rattle.cvc_lex.specs.Physical.{Read, read, text_of, without_last, cut, first_place, is_lone_dollar, shape_of, card_shape, row_shape, unindented, size_of, tokens_of}
+use Rattle.cvc_lex.specs.Physical.{Read, read, text_of, without_last, cut, first_place, is_lone_dollar, shape_of, card_shape, row_shape, unindented}
 
 -- ## Fronts of lists
 

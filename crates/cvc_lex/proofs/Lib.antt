@@ -9,3 +9,7 @@ pub mod Readings
 pub mod Handing
 pub mod Finding
 pub mod Comments
+pub mod Tokened
+pub mod Counted
+pub mod Judging
+pub mod JudgedFiles

@@ -7,3 +7,5 @@ pub mod Comments
 pub mod Stops
 pub mod Scanning
 pub mod Examples
+pub mod Laws
+pub mod Judged

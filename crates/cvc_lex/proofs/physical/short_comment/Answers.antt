@@ -1,4 +1,4 @@
-use Rattle.std.proofs.Common.{◌≡◌, ℕ, Bool, ◌-◌, cond, length, take, sym, ap, ◌∙◌}
+use Rattle.std.proofs.Common.{◌≡◌, Bool, ◌-◌, cond, length, take, sym, ap, ◌∙◌}
 use Rattle.std.specs.List.{list_any}
 use Rattle.cvc_lex.specs.Bytes.{is_bad, is_netlist}
 use Rattle.cvc_lex.proofs.Comments.{is_short}
