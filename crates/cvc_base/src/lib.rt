@@ -12,6 +12,7 @@ mod list;
 mod millivolts;
 mod param;
 mod rule;
+mod stop;
 mod text;
 
 pub use cause::Cause;
@@ -24,6 +25,7 @@ pub use list::ItemList;
 pub use millivolts::Mv;
 pub use param::{Pair, Pairs, Param, Params, Value};
 pub use rule::Rule;
+pub use stop::Stop;
 pub use text::{Text, Texts};
 
 #[cfg(test)]

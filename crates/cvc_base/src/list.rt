@@ -78,6 +78,22 @@ impl<T> ItemList<T> {
         self.items.remove(i)
     }
 
+    /// Makes room for `n` more items, so that so many are put last without a move of the others. The list stays as it is.
+    pub fn reserve(&mut self, n: usize) -> Result<(), NoMemory>
+        ensures { self.new ≡ self.old }
+    {
+        self.items.reserve(n)?;
+        Ok(())
+    }
+
+    /// Its items, in order, without a copy.
+    pub fn into_vec(self) -> Vec<T>
+        ensures { result.items ≡ self }
+    {
+        let ItemList { items } = self;
+        items
+    }
+
     /// Puts an item last. Without memory the list stays as it was, and the item is dropped.
     pub fn push(&mut self, item: T) -> Result<(), NoMemory>
     where

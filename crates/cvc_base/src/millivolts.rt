@@ -22,6 +22,9 @@ impl Model for Mv {
 }
 
 impl Mv {
+    /// No voltage.
+    pub const ZERO: Mv = Mv { millivolts: 0 };
+
     /// The voltage of `v` millivolts: `None` exactly where it lies outside -1,000,000 to 1,000,000.
     pub fn new(v: i64) -> Option<Mv>
         ensures { SomeIff result ((neg_ℤ (pos 1000000) ≤ℤ v) × (v ≤ℤ pos 1000000)) v }

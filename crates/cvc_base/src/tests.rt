@@ -1,4 +1,8 @@
+ghost use Rattle.std.specs.Prelude.{◌≡◌, pos};
+
 use super::*;
+use std::alloc::Global;
+use std::mem::size_of;
 use std::test::Fail;
 
 #[test]
@@ -42,4 +46,64 @@ fn a_list_keeps_its_items_in_order(rt: HostRuntime) -> Result<(), Fail> {
 #[test]
 fn a_cause_prints_its_word(rt: HostRuntime) {
     assert_eq!(rt; Cause::SameNetTwice.word(), b"same-net-twice".as_slice());
+}
+
+#[test]
+fn a_text_keeps_its_bytes(rt: HostRuntime) -> Result<(), Fail> {
+    let alloc = rt.alloc();
+    for bytes in [
+        b"".as_slice(),
+        b"vdd",
+        b"exactly_16_bytes",
+        b"seventeen_bytes_x",
+    ] {
+        assert_eq!(rt; Text::of(alloc, bytes)?.bytes(), bytes);
+        let taken = Text::from_vec(bytes.to_vec(alloc)?);
+        assert_eq!(rt; taken.bytes(), bytes);
+    }
+    // a file of 128 MiB has at most as many tokens as bytes
+    assert!(rt; size_of::<Token>() <= 50);
+    Ok(())
+}
+
+#[test]
+fn a_list_hands_its_items_over(rt: HostRuntime) -> Result<(), Fail> {
+    let mut list = ItemList::new(rt.alloc());
+    list.reserve(3)?;
+    for n in [3, 1, 2] {
+        list.push(n)?;
+    }
+    assert_eq!(rt; list.into_vec().as_slice(), [3, 1, 2].as_slice());
+    Ok(())
+}
+
+fn zero() -> Mv
+    ensures { result ≡ pos 0 }
+{
+    Mv::ZERO
+}
+
+fn short_text(alloc: Global, bytes: &[u8]) -> Result<Text, Stop> {
+    if bytes.len() > 16 {
+        return Err(Stop::from(Cause::LongToken));
+    }
+    Ok(Text::of(alloc, bytes)?)
+}
+
+fn refused_text(alloc: Global, bytes: &[u8]) -> Result<Text, Refusal> {
+    short_text(alloc, bytes).map_err(|stop| stop.on(FileKind::Power, 7))
+}
+
+#[test]
+fn a_stop_becomes_a_refusal(rt: HostRuntime) {
+    assert_eq!(rt; zero().get(), 0);
+    let fault = Fault::at(FileKind::Power, 7, Cause::LongToken);
+    assert_eq!(rt;
+        refused_text(rt.alloc(), b"seventeen_bytes_x").err(),
+        Some(Refusal::from(fault))
+    );
+    assert_eq!(rt;
+        Stop::from(NoMemory).on(FileKind::Power, 7),
+        Refusal::from(NoMemory)
+    );
 }

@@ -2,13 +2,14 @@
 ghost use Rattle.std.specs.Prelude.{◌≡◌, IfOk};
 
 use crate::{ItemList, NoMemory};
+use smallvec::SmallVec;
 use std::alloc::Global;
 use std::marker::Model;
 
-/// A text of any bytes. Contracts see it as the list of its bytes.
+/// A text of any bytes, of which up to 16 lie in the value itself. Contracts see it as the list of its bytes.
 #[derive(Debug, Drop)]
 pub struct Text {
-    bytes: Vec<u8>,
+    bytes: SmallVec<u8, 16>,
 }
 
 /// A list of texts.
@@ -28,8 +29,17 @@ impl Text {
         ensures { IfOk result (λ text. text ≡ bytes.now) }
     {
         Ok(Text {
-            bytes: Vec::from_slice(alloc, bytes)?,
+            bytes: SmallVec::from_slice(alloc, bytes)?,
         })
+    }
+
+    /// The bytes of a vector, which it keeps where they don't fit into the value.
+    pub fn from_vec(bytes: Vec<u8>) -> Text
+        ensures { result ≡ bytes.items }
+    {
+        Text {
+            bytes: SmallVec::from_vec(bytes),
+        }
     }
 
     /// The bytes.

@@ -12,7 +12,8 @@ use Rattle.cvc_base.specs.declared.fault.FileKind.TheVariants.{Netlist as Netlis
 use Rattle.cvc_base.specs.declared.line.Line.{Line}
 use Rattle.cvc_lex.specs.Bytes.{is_line_feed, file_limit, line_limit}
 use Rattle.cvc_lex.specs.Physical.{ended, open_rest, physical, Read, read, reads_from, is_long}
-use Rattle.cvc_lex.specs.Lines.{is_start, Group, own, group, groups, line_of, logical, size_with, cause_at, fault_on, fault_after, fault_with, or_else, opened, joined, first_fault, lexical, lines, closed_at_end}
+use Rattle.cvc_base.specs.Faults.{fault_on}
+use Rattle.cvc_lex.specs.Lines.{is_start, Group, own, group, groups, line_of, logical, size_with, cause_at, fault_after, fault_with, or_else, opened, joined, first_fault, lexical, lines, closed_at_end}
 use Rattle.cvc_cdl.specs.Alike.{IsLimit, MeetsLimits}
 use Rattle.cvc_cdl.specs.Pieces.{PrintedLine, printed_text, whole_line, IsReadableLine, ReadsAsLine, ReadAsLines}
 use Rattle.cvc_cdl.proofs.PrintedLinesTexts.{clean_line}

@@ -14,7 +14,8 @@ use Rattle.cvc_base.specs.declared.line.Line.{Line}
 use Rattle.cvc_base.specs.declared.line.Token.{Token}
 use Rattle.cvc_lex.specs.Bytes.{is_bad, is_word, file_limit}
 use Rattle.cvc_lex.specs.Physical.{begins_token, token_text, tokens_from, tokens_of, past_plus, text_of, cut, shape_of, card_shape, begins_with_dot, unindented, first_place, is_lone_dollar, physical, Read, read, reads_from}
-use Rattle.cvc_lex.specs.Lines.{is_start, is_continuation, own, group, groups, line_of, cause_at, fault_on, fault_after, fault_with, or_else, opened, joined, first_fault, lexical, closed_at_end}
+use Rattle.cvc_base.specs.Faults.{fault_on}
+use Rattle.cvc_lex.specs.Lines.{is_start, is_continuation, own, group, groups, line_of, cause_at, fault_after, fault_with, or_else, opened, joined, first_fault, lexical, closed_at_end}
 use Rattle.cvc_cdl.specs.Pieces.{is_outside, IsTokenText}
 use Rattle.cvc_cdl.proofs.LineWords.{is_no_word}
 use Rattle.cvc_cdl.proofs.PrintedLines.{closed-is}

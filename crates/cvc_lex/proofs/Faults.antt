@@ -1,19 +1,19 @@
 -- First faults and closed lines of a stream that goes on.
-use Rattle.std.proofs.Common.{◌≡◌, ℕ, zero, suc, ◌+◌, ◌<◌, ◌≤◌, List, [], ◌∷◌, ◌++◌, length, map, Bool, true, false, cond, Option, Some, None, refl, sym, ap, subst, ◌∙◌, arith, inl, inr, ◌⊎◌, ltb}
+use Rattle.std.proofs.Common.{◌≡◌, ℕ, ◌+◌, ◌<◌, ◌≤◌, List, [], ◌∷◌, ◌++◌, length, map, Bool, true, false, cond, Option, Some, None, refl, sym, ap, subst, ◌∙◌, arith, inl, inr}
 use Rattle.std.specs.Prelude.{is_some, option_map, option_to_list, nat_lt}
 use Rattle.std.specs.List.{list_any}
 use Rattle.std.proofs.lemmas.Bool.{cases_Bool, cases_lt, lt-ltb, le-ltb, ltb-true, ltb-false}
 use Rattle.std.proofs.lemmas.List.{append_assoc, append-nil, length-append}
 use Rattle.std.proofs.lemmas.List.Concat.{flat_map-append}
-use Rattle.cvc_base.specs.declared.cause.Cause.{Cause}
 use Rattle.cvc_base.specs.declared.cause.Cause.TheVariants.{FileTooLong}
 use Rattle.cvc_base.specs.declared.fault.Fault.{Fault}
 use Rattle.cvc_base.specs.declared.fault.FileKind.{FileKind}
 use Rattle.cvc_base.specs.declared.line.Line.{Line}
 use Rattle.cvc_lex.specs.declared.scanner.Logical.{Logical}
 use Rattle.cvc_lex.specs.Bytes.{is_line_feed, file_limit}
-use Rattle.cvc_lex.specs.Physical.{Read, read, ended, open_rest, physical, line_if_any}
-use Rattle.cvc_lex.specs.Lines.{joined, opened, closed, logical, line_of, cause_of, cause_at, fault_on, fault_with, fault_after, or_else, first_fault, faultless, lexical, lines, lines_unless, closed_at_end, sure_fault, closed_so_far}
+use Rattle.cvc_lex.specs.Physical.{read, ended, open_rest, physical, line_if_any}
+use Rattle.cvc_base.specs.Faults.{fault_on}
+use Rattle.cvc_lex.specs.Lines.{joined, opened, closed, logical, line_of, cause_of, cause_at, fault_with, fault_after, or_else, first_fault, faultless, lexical, lines, lines_unless, closed_at_end, sure_fault, closed_so_far}
 use Rattle.cvc_lex.proofs.Streams.{NoFeed, ended-append, ended-none, ended-line, first_feed, rest_no_feed, no_feed-append, length_stream, physical_of, physical-append, rest-none, rest-line}
 use Rattle.cvc_lex.proofs.Grouping.{closed_stay, all_lines}
 

@@ -1,15 +1,14 @@
 -- Logical lines, one physical line after another.
-use Rattle.std.proofs.Common.{◌≡◌, ℕ, zero, suc, ◌+◌, ◌≤◌, List, [], ◌∷◌, ◌++◌, length, map, Bool, true, false, cond, Option, Some, None, refl, sym, ap, subst, ◌∙◌, arith, inl, inr, ◌⊎◌, add_assoc, add-zero, not}
-use Rattle.std.specs.Prelude.{fold, filter, find, flat_map, sum_by, option_map, option_to_list, is_some, is_none}
-use Rattle.std.specs.List.{before_first, prefix_len}
+use Rattle.std.proofs.Common.{◌≡◌, ℕ, ◌+◌, List, [], ◌∷◌, ◌++◌, length, map, Bool, true, false, cond, Option, Some, None, refl, sym, ap, subst, ◌∙◌, arith, inl, inr, add_assoc, add-zero, not}
+use Rattle.std.specs.Prelude.{fold, filter, find, flat_map, sum_by, option_map, option_to_list}
+use Rattle.std.specs.List.{prefix_len}
 use Rattle.std.proofs.lemmas.Bool.{cases_Bool}
 use Rattle.std.proofs.lemmas.List.Sums.{sum_by-cons, fold-append}
 use Rattle.cvc_lex.proofs.Texts.{one-add}
-use Rattle.std.proofs.lemmas.List.{append_assoc, append-nil, length-append}
+use Rattle.std.proofs.lemmas.List.{append_assoc, append-nil}
 use Rattle.cvc_base.specs.declared.fault.FileKind.{FileKind}
 use Rattle.cvc_base.specs.declared.fault.FileKind.TheVariants.{Netlist, Models, Power}
 use Rattle.cvc_base.specs.declared.line.Line.{Line}
-use Rattle.cvc_base.specs.declared.line.Token.{Token}
 use Rattle.cvc_lex.specs.declared.scanner.Logical.{Logical}
 use Rattle.cvc_lex.specs.declared.shape.Shape.{Shape}
 use Rattle.cvc_lex.specs.declared.shape.Shape.TheVariants.{Skipped, Directive, Card, Continuation}

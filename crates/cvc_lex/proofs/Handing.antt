@@ -1,16 +1,18 @@
 -- What the public calls answer.
 use Rattle.std.proofs.Common.{◌≡◌, ℕ, zero, suc, ◌+◌, ◌-◌, ◌≤◌, List, [], ◌∷◌, ◌++◌, length, drop, Bool, true, false, Option, Some, None, Result, Ok, Err, refl, sym, ap, subst, ◌∙◌, arith, inl, inr, ◌⊎◌}
 use Rattle.std.specs.Prelude.{option_to_list, slice_get}
-use Rattle.std.proofs.lemmas.List.{length-drop, drop-drop}
-use Rattle.cvc_base.specs.declared.fault.Fault.{Fault}
+use Rattle.std.proofs.lemmas.List.{length-drop}
 use Rattle.cvc_base.specs.declared.fault.FileKind.{FileKind}
 use Rattle.cvc_base.specs.declared.fault.Refusal.{Refusal}
 use Rattle.cvc_base.specs.declared.fault.Refusal.TheVariants.{At, NoMemory}
 use Rattle.cvc_base.specs.declared.line.Line.{Line}
 use Rattle.cvc_lex.specs.Physical.{read, ended, open_rest}
 use Rattle.cvc_lex.specs.Lines.{sure_fault, lexical, closed, opened, first_fault, closed_so_far}
-use Rattle.cvc_lex.specs.Lexing.{Lexing, StandsFor, HasRead, closed_in, fault_in, Refuses, IfAt, IsFirstFaultOf, refusal_in, TakesFirst, Hands}
-use Rattle.cvc_lex.proofs.Standing.{stands_none, stands_at, stands_part, none_facts, at_facts, part_facts, inside}
+use Rattle.cvc_base.specs.Answers.{IfAt, Refuses, refusal_in}
+use Rattle.cvc_lex.specs.Lexing.{Lexing, StandsFor, closed_in, fault_in, IsFirstFaultOf, TakesFirst, Hands}
+use Rattle.cvc_base.specs.declared.stop.Stop.{Stop}
+use Rattle.cvc_lex.specs.Scanning.{Reads, EndsStream, outcome, at_end}
+use Rattle.cvc_lex.proofs.Standing.{stands_none, stands_at, stands_part, none_facts, at_facts, part_facts, kept_feed, kept_finish}
 use Rattle.cvc_lex.proofs.Faults.{decided-append, first-nil, so_far-none, sure_from_none}
 use Rattle.cvc_lex.proofs.Streams.{ended-none, rest-nil}
 use Rattle.cvc_lex.proofs.Grouping.{closed-nil, opened-nil}
@@ -89,3 +91,40 @@ fresh kind =
       none = λ _. rest;
       begun = λ _. refl;
     })
+
+-- ## A step whose refusal is kept
+
+pub outcome_keeps : (x : Lexing) (done : Result (Unit {0}) Stop) → ((outcome x done).file ≡ x.file) × ((outcome x done).finished ≡ x.finished)
+outcome_keeps x (Ok u) = (refl, refl)
+outcome_keeps x (Err stop) = (refl, refl)
+
+pub fed : (x mid y : Lexing) (piece : List ℕ) (done : Result (Unit {0}) Stop) → Reads x mid piece done → y ≡ outcome mid done → (s : List ℕ) (n : ℕ) → StandsFor x s n → StandsFor y (s ++ piece) n
+fed x mid y piece done r e s n st = let P : Lexing → Type 0 = λ z. StandsFor z (s ++ piece) n in subst P (sym e) (r.stands s n st)
+
+pub fed_same : (x mid y : Lexing) (piece : List ℕ) (done : Result (Unit {0}) Stop) → Reads x mid piece done → y ≡ outcome mid done → (y.file ≡ x.file) × (y.finished ≡ false)
+fed_same x mid y piece done r e =
+    let keeps = outcome_keeps mid done in
+    (ap (λ (z : Lexing). z.file) e ∙ keeps.0 ∙ r.file, ap (λ (z : Lexing). z.finished) e ∙ keeps.1 ∙ r.finished)
+
+pub finished : (x mid y : Lexing) (done : Result (Unit {0}) Stop) → EndsStream x mid done → y ≡ outcome mid done → (s : List ℕ) (n : ℕ) → StandsFor x s n → StandsFor (at_end y) s n
+finished x mid y done r e s n st = let P : Lexing → Type 0 = λ z. StandsFor (at_end z) s n in subst P (sym e) (r.stands s n st)
+
+pub finished_file : (x mid y : Lexing) (done : Result (Unit {0}) Stop) → EndsStream x mid done → y ≡ outcome mid done → y.file ≡ x.file
+finished_file x mid y done r e = ap (λ (z : Lexing). z.file) e ∙ (outcome_keeps mid done).0 ∙ r.file
+
+-- the front of a list is taken, if it has one
+pub takes_front : (old new : List Line) (front : Option Line) → old ≡ option_to_list front ++ new → new ≡ drop 1 old → TakesFirst old new front
+takes_front old new (Some line) e d = e
+takes_front [] new None e d = (refl, sym e)
+takes_front (line ∷ old) new None e d = let long = ap length e in let short = ap length d in absurd (omega arith)
+
+-- ## A refusal that was kept
+
+pub kept_refuses : (x : Lexing) (piece : List ℕ) (r : Refusal) → x.finished ≡ false → x.refused ≡ Some r → (s : List ℕ) (n : ℕ) → StandsFor x s n → Refuses {A = Unit {0}} (sure_fault x.file (s ++ piece)) (Err r)
+kept_refuses x piece r e h s n st = refuses x (s ++ piece) n false (Err r) e h (kept_feed x s piece n r e h st)
+
+pub kept_sure : (x : Lexing) (piece : List ℕ) (r : Refusal) → x.finished ≡ false → x.refused ≡ Some r → (s : List ℕ) (n : ℕ) → StandsFor x s n → IfAt {A = Unit {0}} (Err r) (IsFirstFaultOf x.file (s ++ piece))
+kept_sure x piece r e h s n st = sure_at x (s ++ piece) n (Err r) e h (kept_feed x s piece n r e h st)
+
+pub kept_lexical : (x : Lexing) (r : Refusal) → x.finished ≡ false → x.refused ≡ Some r → (s : List ℕ) (n : ℕ) → StandsFor x s n → Refuses {A = Unit {0}} (lexical x.file s) (Err r)
+kept_lexical x r e h s n st = refuses (at_end x) s n true (Err r) refl h (kept_finish x s n r e h st)

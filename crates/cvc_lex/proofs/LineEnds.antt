@@ -1,22 +1,20 @@
 -- A physical line as it is read, by its shape.
-use Rattle.std.proofs.Common.{◌≡◌, ℕ, ◌+◌, ◌<◌, ◌≤◌, List, [], ◌∷◌, length, drop, Bool, true, false, cond, Option, Some, None, Result, Ok, Err, refl, sym, ap, subst, ◌∙◌, arith, inl, inr, ◌⊎◌}
+use Rattle.std.proofs.Common.{◌≡◌, ℕ, ◌+◌, ◌<◌, List, [], ◌∷◌, length, true, false, Option, Some, Result, Ok, Err, refl, sym, ap, subst, ◌∙◌, inl, inr}
 use Rattle.std.specs.List.{list_any, prefix_len}
 use Rattle.std.proofs.lemmas.Bool.{cases_Bool, cases_lt}
-use Rattle.std.proofs.lemmas.List.{drop_all, length-drop}
-use Rattle.cvc_base.specs.declared.cause.Cause.{Cause}
+use Rattle.std.proofs.lemmas.List.{drop_all}
 use Rattle.cvc_base.specs.declared.cause.Cause.TheVariants.{BadByte}
 use Rattle.cvc_base.specs.declared.fault.FileKind.{FileKind}
-use Rattle.cvc_base.specs.declared.fault.FileKind.TheVariants.{Netlist, Models, Power}
 use Rattle.cvc_lex.specs.declared.scanner.Logical.{Logical}
 use Rattle.cvc_lex.specs.declared.shape.Shape.{Shape}
 use Rattle.cvc_lex.specs.declared.shape.Shape.TheVariants.{Skipped, Directive, Card, Continuation}
-use Rattle.cvc_lex.specs.declared.stop.Stop.{Stop}
-use Rattle.cvc_lex.specs.declared.stop.Stop.TheVariants.{At, NoMemory}
+use Rattle.cvc_base.specs.declared.stop.Stop.{Stop}
+use Rattle.cvc_base.specs.declared.stop.Stop.TheVariants.{At, NoMemory}
 use Rattle.cvc_lex.specs.Bytes.{is_netlist, is_blank, is_bad}
-use Rattle.cvc_lex.specs.Physical.{Read, read, text_of, cut, shape_of, card_shape, row_shape, unindented, size_of, tokens_of}
+use Rattle.cvc_lex.specs.Physical.{Read, read, text_of, cut, shape_of, card_shape, row_shape, unindented}
 use Rattle.cvc_lex.specs.Lines.{cause_of}
 use Rattle.cvc_lex.specs.Lexing.{Lexing}
-use Rattle.cvc_lex.specs.Scanning.{with_shape, Stays, Adds, Ends, counted, shaped}
+use Rattle.cvc_lex.specs.Scanning.{with_shape, Adds, Ends, shaped}
 use Rattle.cvc_lex.proofs.Texts.{unindented_is}
 
 pub bad_cause : (kind : FileKind) (n : ℕ) (line : List ℕ) (started : Option Logical) → list_any is_bad (text_of line) ≡ true → cause_of kind started (read kind n line) ≡ Some BadByte

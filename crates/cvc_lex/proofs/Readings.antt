@@ -1,21 +1,19 @@
 -- What the parts of a lexer say of the bytes that they read.
-use Rattle.std.proofs.Common.{◌≡◌, ℕ, zero, suc, ◌+◌, ◌-◌, ◌<◌, ◌≤◌, List, [], ◌∷◌, ◌++◌, length, take, drop, Bool, true, false, Option, Some, None, Result, Ok, Err, refl, sym, ap, subst, ◌∙◌, arith, inl, inr, ◌⊎◌}
+use Rattle.std.proofs.Common.{◌≡◌, ℕ, ◌+◌, ◌-◌, ◌≤◌, List, [], ◌++◌, length, take, drop, Some, Result, Ok, Err, refl, sym, ap, subst, ◌∙◌, arith, ◌⊎◌}
 use Rattle.std.proofs.lemmas.List.{append_assoc, append-nil, take_rest, take-append-drop, length-drop}
 use Rattle.std.proofs.Math.Seq.{take-add}
 use Rattle.cvc_base.specs.declared.cause.Cause.{Cause}
-use Rattle.cvc_base.specs.declared.cause.Cause.TheVariants.{FileTooLong}
-use Rattle.cvc_base.specs.declared.fault.FileKind.{FileKind}
 use Rattle.cvc_base.specs.declared.fault.Refusal.{Refusal}
 use Rattle.cvc_lex.specs.declared.shape.Shape.{Shape}
 use Rattle.cvc_lex.specs.declared.shape.Shape.TheVariants.{Skipped, Directive, Card, Continuation}
-use Rattle.cvc_lex.specs.declared.stop.Stop.{Stop}
-use Rattle.cvc_lex.specs.declared.stop.Stop.TheVariants.{At, NoMemory}
+use Rattle.cvc_base.specs.declared.stop.Stop.{Stop}
+use Rattle.cvc_base.specs.declared.stop.Stop.TheVariants.{At, NoMemory}
 use Rattle.cvc_lex.specs.Bytes.{file_limit}
 use Rattle.cvc_lex.specs.Physical.{Read, read}
 use Rattle.cvc_lex.specs.Lexing.{Lexing, StandsFor}
 use Rattle.cvc_lex.specs.Lined.{IsLineEnd, HasNoEnd}
 use Rattle.cvc_lex.specs.Scanning.{with_shape, Stays, Ends, counted, refusal_of, outcome, Reads, IsGoing, Closes, at_end, EndsStream, CountsBytes}
-use Rattle.cvc_lex.proofs.Standing.{keeping, passing, wanting, ending, kept_feed, kept_finish, finish_empty, finish_stop, finish_close}
+use Rattle.cvc_lex.proofs.Standing.{keeping, passing, wanting, ending, kept_feed, finish_empty, finish_stop, finish_close}
 
 -- what the end of a line leaves
 record Keeps (old new : Lexing) : Type 0 where

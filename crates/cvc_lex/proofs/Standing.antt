@@ -1,6 +1,6 @@
 -- What a lexer stands for after each of its steps.
-use Rattle.std.proofs.Common.{◌≡◌, ℕ, zero, suc, ◌+◌, ◌<◌, ◌≤◌, List, [], ◌∷◌, ◌++◌, length, map, drop, Bool, true, false, cond, Option, Some, None, Result, Ok, Err, refl, sym, ap, subst, ◌∙◌, arith, inl, inr, ◌⊎◌, add-zero}
-use Rattle.std.specs.Prelude.{is_some, option_map, option_to_list}
+use Rattle.std.proofs.Common.{◌≡◌, ℕ, ◌+◌, ◌<◌, ◌≤◌, List, [], ◌∷◌, ◌++◌, length, map, drop, Bool, true, false, Option, Some, None, Result, Ok, Err, refl, sym, ap, subst, ◌∙◌, arith, inl, inr, ◌⊎◌, add-zero}
+use Rattle.std.specs.Prelude.{option_map, option_to_list}
 use Rattle.std.proofs.lemmas.List.{append_assoc, append-nil, length-append, drop-append-le}
 use Rattle.cvc_base.specs.declared.cause.Cause.{Cause}
 use Rattle.cvc_base.specs.declared.cause.Cause.TheVariants.{FileTooLong}
@@ -12,13 +12,14 @@ use Rattle.cvc_base.specs.declared.line.Line.{Line}
 use Rattle.cvc_lex.specs.declared.scanner.Logical.{Logical}
 use Rattle.cvc_lex.specs.declared.shape.Shape.{Shape}
 use Rattle.cvc_lex.specs.declared.shape.Shape.TheVariants.{Skipped, Directive, Card, Continuation}
-use Rattle.cvc_lex.specs.declared.stop.Stop.{Stop}
-use Rattle.cvc_lex.specs.declared.stop.Stop.TheVariants.{At, NoMemory}
-use Rattle.cvc_lex.specs.Bytes.{is_netlist, file_limit}
+use Rattle.cvc_base.specs.declared.stop.Stop.{Stop}
+use Rattle.cvc_base.specs.declared.stop.Stop.TheVariants.{At, NoMemory}
+use Rattle.cvc_lex.specs.Bytes.{file_limit}
 use Rattle.cvc_lex.specs.Physical.{Read, read, ended, open_rest, physical, line_if_any}
-use Rattle.cvc_lex.specs.Lines.{joined, opened, closed, logical, line_of, or_else, cause_of, fault_on, fault_after, first_fault, faultless, lexical, lines, closed_at_end, sure_fault, closed_so_far}
+use Rattle.cvc_base.specs.Faults.{fault_on}
+use Rattle.cvc_lex.specs.Lines.{opened, closed, logical, line_of, or_else, cause_of, fault_after, first_fault, faultless, lexical, closed_at_end, sure_fault, closed_so_far}
 use Rattle.cvc_lex.specs.Lexing.{Lexing, ReadsAs, IsReading, closed_in, fault_in, HasRead, StandsFor}
-use Rattle.cvc_lex.specs.Scanning.{with_shape, Stays, Ends, counted, refusal_of, outcome, Reads, IsGoing, Closes, at_end, EndsStream, begun, closed_by_start, open_by_start}
+use Rattle.cvc_lex.specs.Scanning.{with_shape, Stays, Ends, counted, refusal_of, outcome, IsGoing, Closes, at_end, closed_by_start}
 use Rattle.cvc_lex.specs.Lined.{IsLineEnd, HasNoEnd}
 use Rattle.cvc_lex.proofs.Streams.{ended-more, rest-more, ended-end, rest-end, length_stream, physical_of}
 use Rattle.cvc_lex.proofs.Grouping.{Sorted, add_by, closed-more, opened-more, all_lines}

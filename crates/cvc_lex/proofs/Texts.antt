@@ -1,18 +1,17 @@
 -- Texts, shapes and tokens.
-use Rattle.std.proofs.Common.{◌≡◌, ℕ, zero, suc, ◌+◌, ◌-◌, ◌<◌, ◌≤◌, List, [], ◌∷◌, ◌++◌, length, take, drop, get_or, Bool, true, false, cond, not, ◌&&◌, ◌||◌, ◌==◌, eqb, refl, sym, ap, subst, ◌∙◌, arith, inl, inr, ◌⊎◌, add-zero, zero-add, add-one}
-use Rattle.std.specs.List.{prefix_len, list_any}
-use Rattle.std.specs.Prelude.{slice_range, slice_index}
-use Rattle.std.proofs.lemmas.Bool.{cases_Bool, cond-true, ne_eqb, and_left, and_right, and_parts, not-true}
+use Rattle.std.proofs.Common.{◌≡◌, ℕ, suc, ◌+◌, ◌-◌, ◌<◌, ◌≤◌, List, [], ◌∷◌, length, take, drop, get_or, Bool, true, false, cond, not, ◌&&◌, ◌==◌, refl, sym, ap, subst, ◌∙◌, arith, inl, inr, add-zero}
+use mir.Val.{bool_byte}
+use Rattle.std.specs.List.{prefix_len}
+use Rattle.std.specs.Prelude.{slice_range}
+use Rattle.std.proofs.lemmas.Bool.{cases_Bool, cond-true, ne_eqb, and_right, and_parts, not-true}
 use Rattle.std.proofs.lemmas.Bool.Decides.{nat_tests}
 use Rattle.std.proofs.lemmas.List.Sums.{prefix_len_stops}
 use Rattle.std.proofs.lemmas.List.{drop_more, drop_all, take_rest, length-drop, drop-drop, get_or-drop}
 use Rattle.cvc_base.specs.declared.fault.FileKind.{FileKind}
-use Rattle.cvc_base.specs.declared.fault.FileKind.TheVariants.{Netlist, Models, Power}
 use Rattle.cvc_base.specs.declared.line.Token.{Token}
-use Rattle.cvc_lex.specs.declared.shape.Shape.{Shape}
-use Rattle.cvc_lex.specs.declared.shape.Shape.TheVariants.{Skipped, Directive, Card, Continuation}
+use Rattle.cvc_lex.specs.declared.shape.Shape.TheVariants.{Skipped, Card}
 use Rattle.cvc_lex.specs.Bytes.{is_netlist, is_blank, is_alone, is_word}
-use Rattle.cvc_lex.specs.Physical.{first_place, unindented, shape_of, card_shape, row_shape, past_plus, begins_token, token_text, tokens_from}
+use Rattle.cvc_lex.specs.Physical.{first_place, unindented, shape_of, card_shape, row_shape, begins_token, token_text, tokens_from}
 
 -- ## The first place
 
@@ -183,3 +182,38 @@ module _ (kind : FileKind) (number : ℕ) where
         let more : drop (i + n) text ≡ get_or text (i + n) 0 ∷ drop (i + n + 1) text = drop_more text (i + n) 0 lt in
         let P : ℕ → Type 0 = λ k. 0 < k in
         subst P (sym (is ∙ ap (prefix_len (is_word kind)) (take_rest text (i + n) ∙ more) ∙ cond-true (is_word kind (get_or text (i + n) 0)) _ _ word)) (omega arith)
+
+-- ## How many tokens
+
+pub byte_is : (b : Bool) → bool_byte b ≡ cond b 1 0
+byte_is true = refl
+byte_is false = refl
+
+pub count_more : (kind : FileKind) (number column count : ℕ) (inside : Bool) (i : ℕ) (text : List ℕ) (total : ℕ) → i < length text
+    → count + length (tokens_from kind number inside (column + i) (drop i text)) ≡ total
+    → count + cond (begins_token kind inside (get_or text i 0)) 1 0 + length (tokens_from kind number (is_word kind (get_or text i 0)) (column + (i + 1)) (drop (i + 1) text)) ≡ total
+count_more kind number column count inside i text total lt h =
+    let x : ℕ = get_or text i 0 in
+    let rest : List Token = tokens_from kind number (is_word kind x) (column + (i + 1)) (drop (i + 1) text) in
+    let at : column + i + 1 ≡ column + (i + 1) = omega arith in
+    let whole : length (tokens_from kind number inside (column + i) (drop i text)) ≡ cond (begins_token kind inside x) 1 0 + length rest =
+    rw (drop_more text i 0 lt, tokens-cons kind number inside (column + i) x (drop (i + 1) text), at) (by_first (begins_token kind inside x) (record { text = token_text kind x (drop (i + 1) text); line = number; column = column + i }) rest) in
+    omega (arith, whole, h)
+  where
+    by_first : (b : Bool) (t : Token) (ts : List Token) → length (cond b (t ∷ ts) ts) ≡ cond b 1 0 + length ts
+    by_first true t ts = omega arith
+    by_first false t ts = omega arith
+
+pub count_end : (kind : FileKind) (number column count : ℕ) (inside : Bool) (i : ℕ) (text : List ℕ) (total : ℕ) → length text ≤ i → count + length (tokens_from kind number inside (column + i) (drop i text)) ≡ total → count ≡ total
+count_end kind number column count inside i text total le h =
+    let none : tokens_from kind number inside (column + i) (drop i text) ≡ [] = ap (tokens_from kind number inside (column + i)) (drop_all i text le) ∙ tokens-nil kind number inside (column + i) in
+    let zero_more = ap length none in
+    omega (arith, h, zero_more)
+
+pub count_step : (kind : FileKind) (number column count : ℕ) (inside : Bool) (i : ℕ) (text : List ℕ) (total n : ℕ) (word : Bool) → i < length text → n ≡ cond (begins_token kind inside (get_or text i 0)) 1 0 → word ≡ is_word kind (get_or text i 0)
+    → count + length (tokens_from kind number inside (column + i) (drop i text)) ≡ total → count + n + length (tokens_from kind number word (column + (i + 1)) (drop (i + 1) text)) ≡ total
+count_step kind number column count inside i text total n word lt e w h = rw (e, w) (count_more kind number column count inside i text total lt h)
+
+pub count_small : (b : Bool) (n : ℕ) → n ≡ cond b 1 0 → n ≤ 1
+count_small true n e = omega arith
+count_small false n e = omega arith

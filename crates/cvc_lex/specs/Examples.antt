@@ -1,11 +1,10 @@
-use Rattle.std.specs.Prelude.{◌≡◌, ℕ, ◌+◌, List, [], ◌∷◌, ◌++◌, map, Some, None, codes, refl, Option, replicate}
-use Rattle.cvc_base.specs.declared.cause.Cause.TheVariants.{BadByte, FileTooLong, LongLine, LongToken, StrayPlus}
-use Rattle.cvc_base.specs.declared.fault.FileKind.{FileKind}
-use Rattle.cvc_base.specs.declared.fault.FileKind.TheVariants.{Netlist, Models, Power}
+use Rattle.std.specs.Prelude.{◌≡◌, ℕ, List, [], ◌∷◌, ◌++◌, map, Some, None, codes, refl, replicate}
+use Rattle.cvc_base.specs.declared.cause.Cause.TheVariants.{BadByte, LongToken, StrayPlus}
+use Rattle.cvc_base.specs.declared.fault.FileKind.TheVariants.{Netlist, Models}
 use Rattle.cvc_base.specs.declared.line.Line.{Line}
-use Rattle.cvc_base.specs.declared.line.Token.{Token}
 use Rattle.cvc_lex.specs.Physical.{ended, open_rest, physical, text_of, cut, shape_of, tokens_from, read}
-use Rattle.cvc_lex.specs.Lines.{groups, logical, fault_with, fault_after, first_fault, faultless, lexical, lines, fault_on, closed_at_end, sure_fault, closed_so_far}
+use Rattle.cvc_base.specs.Faults.{fault_on}
+use Rattle.cvc_lex.specs.Lines.{groups, logical, fault_with, fault_after, first_fault, faultless, lexical, lines, closed_at_end, closed_so_far}
 
 texts : Line → List (List ℕ)
 texts l = map (λ t. t.text) l.tokens

@@ -1,6 +1,6 @@
 -- What a lexer stands for: a stream of bytes and a number of lines that it handed out. Its state is the one that these two give; no stream is kept.
 -- Of the open physical line it keeps bytes that read the same as the line's own, whatever comes after them.
-use Rattle.std.specs.Prelude.{◌≡◌, ℕ, ◌+◌, ◌≤◌, ◌⊎◌, Bool, true, false, List, [], ◌∷◌, ◌++◌, length, drop, Option, Some, None, Result, Ok, Err, IfErr, IfSome, MatchResult, MatchOption, slice_get, if◌then◌else◌}
+use Rattle.std.specs.Prelude.{◌≡◌, ℕ, ◌+◌, ◌≤◌, ◌⊎◌, Bool, false, List, [], ◌∷◌, ◌++◌, length, drop, Option, Some, None, slice_get, if◌then◌else◌}
 use Rattle.cvc_base.specs.declared.fault.Fault.{Fault}
 use Rattle.cvc_base.specs.declared.fault.FileKind.{FileKind}
 use Rattle.cvc_base.specs.declared.fault.Refusal.{Refusal}
@@ -66,25 +66,9 @@ pub record StandsFor (x : Lexing) (stream : List ℕ) (n : ℕ) : Type 0 where
 
 -- ## What the calls answer
 
--- the answer is that there is no fault, or the fault; want of memory says nothing
-abbrev pub Refuses : Option Fault → Result (Unit {0}) Refusal → Type 0
-Refuses fault (Ok done) = fault ≡ None
-Refuses fault (Err (At first)) = fault ≡ Some first
-Refuses fault (Err NoMemory) = Unit {0}
-
 -- whatever follows this stream, the file has this first fault, and no more lines than are closed so far
 abbrev pub IsFirstFaultOf : FileKind → List ℕ → Fault → Type 0
 IsFirstFaultOf kind stream fault = (more : List ℕ) → (lexical kind (stream ++ more) ≡ Some fault) × (closed_at_end kind (stream ++ more) ≡ closed_so_far kind stream)
-
-abbrev pub IfAt : Result (Unit {0}) Refusal → (Fault → Type 0) → Type 0
-IfAt (Ok done) P = Unit {0}
-IfAt (Err (At fault)) P = P fault
-IfAt (Err NoMemory) P = Unit {0}
-
--- the refusal that an answer leaves
-abbrev pub refusal_in : Result (Unit {0}) Refusal → Option Refusal
-refusal_in (Ok done) = None
-refusal_in (Err r) = Some r
 
 -- the first of these lines, with those that are left, or none where there is none
 abbrev pub TakesFirst : List Line → List Line → Option Line → Type 0

@@ -1,7 +1,7 @@
 -- Logical lines. A card or a directive of a netlist is the physical line that starts it and every continuation that comes before the next start;
 -- it closes at the physical line that starts the next one, or at the file's end. A row of another file is one physical line and closes there.
 -- The first fault of a file is at the first physical line at which one of the five causes stands, and there the first of them.
-use Rattle.std.specs.Prelude.{ℕ, ◌+◌, ◌-◌, Bool, true, false, cond, not, ◌&&◌, ◌||◌, ◌==◌, nat_lt, List, [], ◌∷◌, ◌++◌, map, length, flat_map, filter, find, fold, sum_by, Option, Some, None, is_some, is_none, option_map, if◌then◌else◌}
+use Rattle.std.specs.Prelude.{ℕ, ◌+◌, Bool, true, false, ◌&&◌, nat_lt, List, [], ◌∷◌, ◌++◌, map, length, flat_map, filter, find, fold, sum_by, Option, Some, None, is_some, is_none, option_map, if◌then◌else◌}
 use Rattle.std.specs.List.{list_any, before_first}
 use Rattle.std.specs.Option.{option_map_or}
 use Rattle.cvc_base.specs.declared.cause.Cause.{Cause}
@@ -9,6 +9,7 @@ use Rattle.cvc_base.specs.declared.cause.Cause.TheVariants.{BadByte, FileTooLong
 use Rattle.cvc_base.specs.declared.fault.FileKind.{FileKind}
 use Rattle.cvc_base.specs.declared.fault.Fault.{Fault}
 use Rattle.cvc_base.specs.declared.line.Line.{Line}
+use Rattle.cvc_base.specs.Faults.{fault_on}
 use Rattle.cvc_lex.specs.declared.scanner.Logical.{Logical}
 use Rattle.cvc_lex.specs.declared.shape.Shape.{Shape}
 use Rattle.cvc_lex.specs.declared.shape.Shape.TheVariants.{Skipped, Directive, Card, Continuation}
@@ -111,9 +112,6 @@ cause_of kind started r =
 -- the first cause that stands at a line that ends with the file's byte number `upto`
 abbrev pub cause_at : FileKind → ℕ → Option Logical → Read → Option Cause
 cause_at kind upto started r = if nat_lt (file_limit kind) upto then Some FileTooLong else cause_of kind started r
-
-abbrev pub fault_on : FileKind → ℕ → Cause → Fault
-fault_on kind number cause = record { place = record { file = kind; line = number }; cause = cause }
 
 -- the first fault at a line, given the number and the size of the lines before it and the logical line that they leave open
 unfoldable pub fault_with : FileKind → ℕ → ℕ → Option Logical → List ℕ → Option Fault

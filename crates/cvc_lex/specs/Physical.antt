@@ -1,7 +1,7 @@
 -- Physical lines. A file is cut at each LF, which belongs to the line that it ends; the bytes after the last LF are a line if there are any.
 -- A line's text is its bytes without the LF and without one CR at the end. A lone `$` of a netlist, or the first `#` of another file, cuts the text,
 -- and the first byte of what is left that is no blank says what the line is and which tokens it has.
-use Rattle.std.specs.Prelude.{ℕ, zero, suc, ◌+◌, ◌-◌, Bool, true, false, cond, not, ◌&&◌, ◌||◌, ◌==◌, nat_lt, List, [], ◌∷◌, ◌++◌, length, take, drop, slice_index, flat_map, take_while, if◌then◌else◌}
+use Rattle.std.specs.Prelude.{ℕ, zero, suc, ◌+◌, ◌-◌, Bool, false, not, ◌&&◌, ◌||◌, ◌==◌, nat_lt, List, [], ◌∷◌, ◌++◌, length, take, drop, slice_index, take_while, if◌then◌else◌}
 use Rattle.std.specs.List.{list_any, before_first, prefix_len}
 use Rattle.cvc_base.specs.declared.fault.FileKind.{FileKind}
 use Rattle.cvc_base.specs.declared.line.Token.{Token}

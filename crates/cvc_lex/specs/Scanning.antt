@@ -1,23 +1,20 @@
 -- The state behind a lexer, and what a physical line changes in it. Only the lexer's own parts speak of this.
-use Rattle.std.specs.Prelude.{◌≡◌, ℕ, ◌+◌, ◌-◌, Bool, true, false, List, [], ◌∷◌, ◌++◌, length, take, drop, ◌<◌, ◌≤◌, Option, Some, None, option_map, option_to_list, Result, Ok, Err, if◌then◌else◌}
-use Rattle.std.specs.List.{list_any}
-use Rattle.cvc_base.specs.declared.cause.Cause.{Cause}
+use Rattle.std.specs.Prelude.{◌≡◌, ℕ, ◌+◌, ◌-◌, Bool, true, false, List, [], ◌∷◌, ◌++◌, length, drop, ◌<◌, ◌≤◌, Option, Some, None, option_map, option_to_list, Result, Ok, Err, if◌then◌else◌}
 use Rattle.cvc_base.specs.declared.cause.Cause.TheVariants.{FileTooLong}
 use Rattle.cvc_base.specs.declared.fault.FileKind.{FileKind}
 use Rattle.cvc_base.specs.declared.fault.Refusal.{Refusal}
-use Rattle.cvc_base.specs.declared.fault.Refusal.TheVariants.{At as AtFault, NoMemory as NoMemoryThere}
 use Rattle.cvc_base.specs.declared.line.Line.{Line}
 use Rattle.cvc_lex.specs.declared.scanner.Logical.{Logical}
 use Rattle.cvc_lex.specs.declared.scanner.Scanner.{Scanner}
 use Rattle.cvc_lex.specs.declared.shape.Shape.{Shape}
 use Rattle.cvc_lex.specs.declared.shape.Shape.TheVariants.{Skipped, Directive, Card, Continuation}
-use Rattle.cvc_lex.specs.declared.stop.Stop.{Stop}
-use Rattle.cvc_lex.specs.declared.stop.Stop.TheVariants.{At, NoMemory}
-use Rattle.cvc_lex.specs.Bytes.{is_netlist, is_line_feed, file_limit}
-use Rattle.cvc_lex.specs.Physical.{Read, read, size_of, tokens_of, past_plus, tokens_from}
-use Rattle.cvc_lex.specs.Lines.{is_directive, cause_of, fault_on}
+use Rattle.cvc_base.specs.declared.stop.Stop.{Stop}
+use Rattle.cvc_base.specs.declared.stop.Stop.TheVariants.{At, NoMemory}
+use Rattle.cvc_lex.specs.Bytes.{is_netlist, file_limit}
+use Rattle.cvc_lex.specs.Physical.{Read, size_of, tokens_of, past_plus, tokens_from}
+use Rattle.cvc_base.specs.Faults.{refusal_on}
+use Rattle.cvc_lex.specs.Lines.{is_directive, cause_of}
 use Rattle.cvc_lex.specs.Lexing.{Lexing, StandsFor}
-use Rattle.cvc_lex.specs.Lined.{IsLineEnd, HasNoEnd}
 
 abbrev pub lexing_of : Scanner → Lexing
 lexing_of s = record { file = s.file; finished = s.finished; refused = s.refused; waiting = s.closed.items; started = s.«open»; count = s.count; size = s.size; rest = s.rest.items }
@@ -84,8 +81,7 @@ start_shape false = Card
 
 -- the refusal that a stop in the open physical line makes
 abbrev pub refusal_of : Lexing → Stop → Refusal
-refusal_of x (At cause) = AtFault (fault_on x.file (x.count + 1) cause)
-refusal_of x NoMemory = NoMemoryThere
+refusal_of x stop = refusal_on x.file (x.count + 1) stop
 
 abbrev pub outcome : Lexing → Result (Unit {0}) Stop → Lexing
 outcome x (Ok done) = x

@@ -5,7 +5,6 @@
 mod physical;
 mod scanner;
 mod shape;
-mod stop;
 mod tokens;
 
 ghost use Rattle.std.specs.Prelude.{◌≡◌, ◌+◌, ◌++◌, [], ℕ, List, true, false, IfOk, IfSome, Some, None, Err};
@@ -34,7 +33,8 @@ impl Model for Lexer {
 
 impl Lexer {
     ghost use Rattle.cvc_lex.specs.Lines.{sure_fault, lexical};
-    ghost use Rattle.cvc_lex.specs.Lexing.{StandsFor, Refuses, IfAt, IsFirstFaultOf, refusal_in, TakesFirst, Hands};
+    ghost use Rattle.cvc_base.specs.Answers.{IfAt, Refuses, refusal_in};
+    ghost use Rattle.cvc_lex.specs.Lexing.{StandsFor, IsFirstFaultOf, TakesFirst, Hands};
 
     /// A lexer that has read nothing. The kind of file chooses the line rules and the limits.
     pub fn new(alloc: Global, file: FileKind) -> Result<Lexer, NoMemory>
@@ -57,7 +57,11 @@ impl Lexer {
         ensures kept { IfSome self.old.refused (λ r. (result ≡ Err r) × (self.new ≡ self.old)) }
         ensures same { (self.new.file ≡ self.old.file) × (self.new.finished ≡ false) }
     {
-        self.scanner.feed(piece)
+        if let Some(refusal) = self.scanner.refused {
+            return Err(refusal);
+        }
+        let done = self.scanner.read_piece(piece);
+        self.scanner.answer(done)
     }
 
     /// Ends the stream. It refuses with the first fault of the whole stream, if there is one.
@@ -69,7 +73,14 @@ impl Lexer {
         ensures kept { IfSome self.old.refused (λ r. result ≡ Err r) }
         ensures same { (self.new.file ≡ self.old.file) × (self.new.finished ≡ true) }
     {
-        self.scanner.finish()
+        if let Some(refusal) = self.scanner.refused {
+            self.scanner.finished = true;
+            return Err(refusal);
+        }
+        let done = self.scanner.end_lines();
+        let answer = self.scanner.answer(done);
+        self.scanner.finished = true;
+        answer
     }
 
     /// The next logical line that is closed. `None` exactly where all closed lines were handed out, or after a want of memory.
@@ -78,7 +89,7 @@ impl Lexer {
         ensures taken { TakesFirst self.old.waiting self.new.waiting result }
         ensures same { self.new ≡ record self.old { waiting = self.new.waiting } }
     {
-        self.scanner.next_line()
+        self.scanner.closed.pop_front()
     }
 }
 

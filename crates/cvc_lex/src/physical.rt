@@ -96,13 +96,13 @@ fn lone_dollar(text: &[u8]) -> usize
     ensures place { result ≡ first_place (lone_dollar_at text.now) 0 (length text.now) }
     ensures within { result ≤ length text.now }
 {
-    if memchr(b'$', text).is_none() {
-        return text.len();
-    }
-    for i in 0..text.len() {
-        if is_lone_dollar(text, i) {
-            return i;
+    let mut i = 0;
+    while let Some(len) = memchr(b'$', &text[i..]) {
+        let place = i + len;
+        if is_lone_dollar(text, place) {
+            return place;
         }
+        i = place + 1;
     }
     text.len()
 }
@@ -112,12 +112,10 @@ fn hash(text: &[u8]) -> usize
     ensures place { result ≡ position_or_len (λ b. b == 35) text.now }
     ensures within { result ≤ length text.now }
 {
-    for (i, byte) in text.iter().enumerate() {
-        if *byte == b'#' {
-            return i;
-        }
+    match memchr(b'#', text) {
+        Some(place) => place,
+        None => text.len(),
     }
-    text.len()
 }
 
 #[tactic(auto, unfolding(crate::specs::Physical::cut))]
@@ -138,12 +136,11 @@ pub(crate) fn indent(text: &[u8]) -> usize
     ensures place { result ≡ prefix_len blank_of text.now }
     ensures within { result ≤ length text.now }
 {
-    for (i, byte) in text.iter().enumerate() {
-        if !is_blank(*byte) {
-            return i;
-        }
+    let mut i = 0;
+    while i < text.len() && is_blank(text[i]) {
+        i += 1;
     }
-    text.len()
+    i
 }
 
 // What a line of a netlist is, from its first byte on that is no blank.

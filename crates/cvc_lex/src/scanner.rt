@@ -6,9 +6,8 @@ use crate::physical::{
     cut, file_limit, has_bad_byte, indent, is_netlist, line_len, shape_of, text_of,
 };
 use crate::shape::Shape;
-use crate::stop::Stop;
 use crate::tokens::add_tokens;
-use cvc_base::{Cause, Fault, FileKind, Line, Place, Refusal, Tokens};
+use cvc_base::{Cause, FileKind, Line, Refusal, Stop, Tokens};
 use std::alloc::Global;
 use std::collections::VecDeque;
 use std::mem;
@@ -28,10 +27,10 @@ pub(crate) struct Logical {
 pub(crate) struct Scanner {
     alloc: Global,
     file: FileKind,
-    finished: bool,
-    refused: Option<Refusal>,
+    pub(crate) finished: bool,
+    pub(crate) refused: Option<Refusal>,
     // the closed lines that were not handed out
-    closed: VecDeque<Line>,
+    pub(crate) closed: VecDeque<Line>,
     // the logical line that is open
     open: Option<Logical>,
     // how many physical lines have ended, and how many bytes have come
@@ -48,9 +47,9 @@ impl Scanner {
     ghost use Rattle.std.specs.List.{prefix_len};
     ghost use Rattle.cvc_lex.specs.Bytes.{file_limit as limit_of, is_netlist as netlist_of, is_blank};
     ghost use Rattle.cvc_lex.specs.Physical.{read, shape_of as shape_in};
-    ghost use Rattle.cvc_lex.specs.Lexing.{StandsFor, refusal_in, TakesFirst};
+    ghost use Rattle.cvc_base.specs.Answers.{refusal_in};
     ghost use Rattle.cvc_lex.specs.Lined.{IsLineEnd, HasNoEnd};
-    ghost use Rattle.cvc_lex.specs.Scanning.{lexing_of, Adds, Ends, Closes, IsGoing, Reads, EndsStream, CountsBytes, refusal_of, at_end, shaped, start_read, start_shape, continuation_read};
+    ghost use Rattle.cvc_lex.specs.Scanning.{lexing_of, Adds, Ends, Closes, IsGoing, Reads, EndsStream, CountsBytes, outcome, shaped, start_read, start_shape, continuation_read};
 
     pub(crate) fn new(alloc: Global, file: FileKind) -> Scanner
         ensures { lexing_of result ≡ record { file = file; finished = false; refused = None; waiting = []; started = None; count = 0; size = 0; rest = [] } }
@@ -212,8 +211,8 @@ impl Scanner {
         self.end_rest()
     }
 
-    // The stream goes on with these bytes.
-    fn read_piece(&mut self, piece: &[u8]) -> Result<(), Stop>
+    /// The stream goes on with these bytes.
+    pub(crate) fn read_piece(&mut self, piece: &[u8]) -> Result<(), Stop>
         requires { IsGoing (lexing_of self.old) }
         ensures { Reads (lexing_of self.old) (lexing_of self.new) piece.now result }
     {
@@ -225,43 +224,8 @@ impl Scanner {
         self.keep(&piece[start..])
     }
 
-    // Keeps the refusal that a stop in the open physical line makes.
-    fn refuse(&mut self, stop: Stop) -> Refusal
-        ensures refusal { result ≡ refusal_of (lexing_of self.old) stop }
-        ensures kept { lexing_of self.new ≡ record (lexing_of self.old) { refused = Some result } }
-    {
-        let refusal = match stop {
-            Stop::At(cause) => Refusal::At(Fault {
-                place: Place {
-                    file: self.file,
-                    line: self.count + 1,
-                },
-                cause,
-            }),
-            Stop::NoMemory => Refusal::NoMemory,
-        };
-        self.refused = Some(refusal);
-        refusal
-    }
-
-    pub(crate) fn feed(&mut self, piece: &[u8]) -> Result<(), Refusal>
-        requires { self.old.finished ≡ false }
-        ensures stands { (stream : List ℕ) (n : ℕ) → StandsFor (lexing_of self.old) stream n → StandsFor (lexing_of self.new) (stream ++ piece.now) n }
-        ensures refused { self.new.refused ≡ refusal_in result }
-        ensures kept { IfSome self.old.refused (λ r. (result ≡ Err r) × (lexing_of self.new ≡ lexing_of self.old)) }
-        ensures same { (self.new.file ≡ self.old.file) × (self.new.finished ≡ false) }
-    {
-        if let Some(refusal) = self.refused {
-            return Err(refusal);
-        }
-        match self.read_piece(piece) {
-            Ok(()) => Ok(()),
-            Err(stop) => Err(self.refuse(stop)),
-        }
-    }
-
-    // The open lines end with the stream.
-    fn end_lines(&mut self) -> Result<(), Stop>
+    /// The open lines end with the stream.
+    pub(crate) fn end_lines(&mut self) -> Result<(), Stop>
         requires { IsGoing (lexing_of self.old) }
         ensures { EndsStream (lexing_of self.old) (lexing_of self.new) result }
     {
@@ -272,38 +236,15 @@ impl Scanner {
         self.close()
     }
 
-    fn end_stream(&mut self) -> Result<(), Refusal>
-        requires { self.old.finished ≡ false }
-        ensures stands { (stream : List ℕ) (n : ℕ) → StandsFor (lexing_of self.old) stream n → StandsFor (at_end (lexing_of self.new)) stream n }
+    /// The answer of a step, whose refusal is kept. The stop stands in the open physical line.
+    pub(crate) fn answer(&mut self, done: Result<(), Stop>) -> Result<(), Refusal>
+        requires { self.old.refused ≡ None }
+        ensures state { lexing_of self.new ≡ outcome (lexing_of self.old) done }
         ensures refused { self.new.refused ≡ refusal_in result }
-        ensures kept { IfSome self.old.refused (λ r. result ≡ Err r) }
-        ensures same { self.new.file ≡ self.old.file }
     {
-        if let Some(refusal) = self.refused {
-            return Err(refusal);
-        }
-        match self.end_lines() {
-            Ok(()) => Ok(()),
-            Err(stop) => Err(self.refuse(stop)),
-        }
-    }
-
-    pub(crate) fn finish(&mut self) -> Result<(), Refusal>
-        requires { self.old.finished ≡ false }
-        ensures stands { (stream : List ℕ) (n : ℕ) → StandsFor (lexing_of self.old) stream n → StandsFor (lexing_of self.new) stream n }
-        ensures refused { self.new.refused ≡ refusal_in result }
-        ensures kept { IfSome self.old.refused (λ r. result ≡ Err r) }
-        ensures same { (self.new.file ≡ self.old.file) × (self.new.finished ≡ true) }
-    {
-        let outcome = self.end_stream();
-        self.finished = true;
-        outcome
-    }
-
-    pub(crate) fn next_line(&mut self) -> Option<Line>
-        ensures taken { TakesFirst self.old.closed.items self.new.closed.items result }
-        ensures same { lexing_of self.new ≡ record (lexing_of self.old) { waiting = self.new.closed.items } }
-    {
-        self.closed.pop_front()
+        let Err(stop) = done else { return Ok(()) };
+        let refusal = stop.on(self.file, self.count + 1);
+        self.refused = Some(refusal);
+        Err(refusal)
     }
 }

@@ -6,8 +6,7 @@ ghost use Rattle.cvc_lex.specs.Physical.{is_long, tokens_from};
 ghost use Rattle.cvc_lex.specs.Stops.{StopsLong};
 
 use crate::physical::{indent, is_blank, is_netlist};
-use crate::stop::Stop;
-use cvc_base::{Cause, FileKind, Text, Token, Tokens};
+use cvc_base::{Cause, FileKind, Stop, Text, Token, Tokens};
 use std::alloc::Global;
 
 // The most bytes of a token.
@@ -31,12 +30,25 @@ fn word_len(file: FileKind, text: &[u8]) -> usize
     ensures word { result ≡ prefix_len (word_in file) text.now }
     ensures within { result ≤ length text.now }
 {
-    for (i, byte) in text.iter().enumerate() {
-        if !is_word(file, *byte) {
-            return i;
-        }
+    let mut i = 0;
+    while i < text.len() && is_word(file, text[i]) {
+        i += 1;
     }
-    text.len()
+    i
+}
+
+// How many tokens the text has.
+fn token_count(file: FileKind, text: &[u8]) -> usize
+    ensures { (number column : ℕ) → result ≡ length (tokens_from file number false column text.now) }
+{
+    let mut count = 0;
+    let mut inside = false;
+    for byte in text {
+        let word = is_word(file, *byte);
+        count += usize::from(is_alone(file, *byte) | (word & !inside));
+        inside = word;
+    }
+    count
 }
 
 // The first place of the next token from `i` on, and the place after it.
@@ -73,6 +85,7 @@ pub(crate) fn add_tokens(
     ensures added { IfOk result (λ _. tokens.new ≡ tokens.old ++ tokens_from file number false (from + 1) (drop from text.now)) }
     ensures long { StopsLong (list_any is_long (tokens_from file number false (from + 1) (drop from text.now))) result }
 {
+    tokens.reserve(token_count(file, &text[from..]))?;
     let mut i = from;
     while let Some((start, end)) = next_token(file, text, i) {
         if end - start > TOKEN_LIMIT {

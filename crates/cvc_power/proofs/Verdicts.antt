@@ -13,7 +13,7 @@ use Rattle.cvc_base.specs.declared.fault.Refusal.{Refusal}
 use Rattle.cvc_base.specs.declared.fault.Refusal.TheVariants.{At, NoMemory}
 use Rattle.cvc_base.specs.declared.line.Line.{Line}
 use Rattle.cvc_base.specs.declared.line.Token.{Token}
-use Rattle.cvc_lex.specs.Lines.{fault_on}
+use Rattle.cvc_base.specs.Faults.{fault_on}
 use Rattle.cvc_power.specs.declared.row.Span.{Span}
 use Rattle.cvc_power.specs.Rows.{text_of, span_of}
 use Rattle.cvc_power.specs.declared.row.PowerRow.{PowerRow}

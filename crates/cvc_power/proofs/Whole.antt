@@ -5,7 +5,8 @@ use Rattle.cvc_base.specs.declared.fault.FileKind.TheVariants.{Power}
 use Rattle.cvc_base.specs.declared.fault.Refusal.{Refusal}
 use Rattle.cvc_base.specs.declared.fault.Refusal.TheVariants.{At, NoMemory}
 use Rattle.cvc_base.specs.declared.line.Line.{Line}
-use Rattle.cvc_lex.specs.Lexing.{Lexing, StandsFor, HasRead, Refuses, closed_in}
+use Rattle.cvc_base.specs.Answers.{Refuses}
+use Rattle.cvc_lex.specs.Lexing.{Lexing, StandsFor, HasRead, closed_in}
 use Rattle.cvc_lex.specs.Lines.{lexical, closed_at_end}
 use Rattle.cvc_power.specs.declared.row.PowerRow.{PowerRow}
 use Rattle.cvc_power.specs.Power.{AtFault, power_of, rows_or_fault, then_lexical, verdicts}

@@ -3,7 +3,8 @@ use Rattle.std.specs.Prelude.{◌≡◌, ℕ, List, [], ◌∷◌, ◌++◌, cod
 use Rattle.cvc_base.specs.declared.cause.Cause.TheVariants.{BadByte, BadRow, BadVoltage, MinAboveMax, TwiceRow}
 use Rattle.cvc_base.specs.declared.fault.FileKind.TheVariants.{Power}
 use Rattle.cvc_lex.specs.Physical.{ended, open_rest, physical, text_of, cut, shape_of, tokens_from, read}
-use Rattle.cvc_lex.specs.Lines.{groups, logical, fault_with, fault_after, first_fault, faultless, lexical, lines, fault_on, closed_at_end}
+use Rattle.cvc_base.specs.Faults.{fault_on}
+use Rattle.cvc_lex.specs.Lines.{groups, logical, fault_with, fault_after, first_fault, faultless, lexical, lines, closed_at_end}
 use Rattle.cvc_units.specs.Number.{millivolts_of, scale_of}
 use Rattle.cvc_units.specs.Split.{split_of, exponent_at}
 use Rattle.cvc_power.specs.Rows.{span_of}

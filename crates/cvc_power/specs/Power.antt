@@ -12,7 +12,8 @@ use Rattle.cvc_base.specs.declared.fault.FileKind.TheVariants.{Power}
 use Rattle.cvc_base.specs.declared.fault.Refusal.{Refusal}
 use Rattle.cvc_base.specs.declared.fault.Refusal.TheVariants.{At, NoMemory}
 use Rattle.cvc_base.specs.declared.line.Line.{Line}
-use Rattle.cvc_lex.specs.Lines.{lexical, closed_at_end, fault_on}
+use Rattle.cvc_base.specs.Faults.{fault_on}
+use Rattle.cvc_lex.specs.Lines.{lexical, closed_at_end}
 use Rattle.cvc_power.specs.declared.row.PowerRow.{PowerRow}
 use Rattle.cvc_power.specs.declared.row.Span.{Span}
 use Rattle.cvc_power.specs.Rows.{text_of, span_of}

@@ -12,7 +12,7 @@ use Rattle.cvc_base.specs.declared.fault.FileKind.TheVariants.{Power}
 use Rattle.cvc_law.specs.Network.{Network, IsDevice, IsCircuit, pin}
 use Rattle.cvc_law.specs.declared.device.Device.{Device}
 use Rattle.cvc_law.specs.declared.interval.Fixed.{Fixed}
-use Rattle.cvc_lex.specs.Lines.{fault_on}
+use Rattle.cvc_base.specs.Faults.{fault_on}
 use Rattle.cvc_run.specs.Forms.{Card}
 use Rattle.cvc_run.specs.Reading.{Refused, Accepted, net_names, resistor, device_label, declared_at, fixed_by, unknown_row, unless_unknown, bound, design_of}
 use Rattle.cvc_run.specs.Resistors.{AreResistors}

@@ -7,7 +7,7 @@ use Rattle.cvc_base.specs.declared.cause.Cause.TheVariants.{NotBuilt}
 use Rattle.cvc_base.specs.declared.fault.Fault.{Fault}
 use Rattle.cvc_base.specs.declared.fault.FileKind.TheVariants.{Netlist, Models, Power}
 use Rattle.cvc_base.specs.declared.line.Line.{Line}
-use Rattle.cvc_lex.specs.Lines.{fault_on}
+use Rattle.cvc_base.specs.Faults.{fault_on}
 use Rattle.cvc_run.specs.Forms.{name_of, texts_of, is_model, card_after, supply_after, card_verdict, model_verdict, supply_verdict}
 use Rattle.cvc_run.specs.Judged.{verdicts, in_front, all_or_fault, said, built, not_built_at, then_lexical}
 use Rattle.cvc_run.specs.Names.{card_view}

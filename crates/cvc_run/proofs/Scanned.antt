@@ -14,8 +14,10 @@ use Rattle.cvc_base.specs.declared.cause.Cause.TheVariants.{FileTooLong}
 use Rattle.cvc_io.specs.Files.{Standing, Takes, IsAtEnd, with_front}
 use Rattle.cvc_lex.specs.Bytes.{file_limit}
 use Rattle.cvc_lex.specs.Physical.{ended}
-use Rattle.cvc_lex.specs.Lexing.{Lexing, StandsFor, HasRead, Refuses, IfAt, IsFirstFaultOf, refusal_in, closed_in}
-use Rattle.cvc_lex.specs.Lines.{lexical, sure_fault, first_fault, fault_on, or_else}
+use Rattle.cvc_base.specs.Answers.{Refuses, IfAt, refusal_in}
+use Rattle.cvc_lex.specs.Lexing.{Lexing, StandsFor, HasRead, IsFirstFaultOf, closed_in}
+use Rattle.cvc_base.specs.Faults.{fault_on}
+use Rattle.cvc_lex.specs.Lines.{lexical, sure_fault, first_fault, or_else}
 use Rattle.cvc_run.specs.Scans.{IsScanned, IsFaultOf, ScansRest}
 
 -- the lexer stands for what was taken from the open file

@@ -5,7 +5,8 @@ use Rattle.cvc_base.specs.declared.cause.Cause.TheVariants.{NotBuilt}
 use Rattle.cvc_base.specs.declared.fault.Fault.{Fault}
 use Rattle.cvc_base.specs.declared.fault.FileKind.{FileKind}
 use Rattle.cvc_base.specs.declared.line.Line.{Line}
-use Rattle.cvc_lex.specs.Lines.{lexical, closed_at_end, fault_on}
+use Rattle.cvc_base.specs.Faults.{fault_on}
+use Rattle.cvc_lex.specs.Lines.{lexical, closed_at_end}
 use Rattle.cvc_run.specs.declared.stop.Stop.{Stop}
 use Rattle.cvc_run.specs.declared.stop.Stop.TheVariants.{At, NoMemory}
 

@@ -12,7 +12,7 @@ use Rattle.cvc_io.specs.Files.{Files, content}
 use Rattle.cvc_law.specs.declared.interval.Fixed.{Fixed}
 use Rattle.cvc_law.specs.declared.device.Device.{Device}
 use Rattle.cvc_law.specs.Network.{Network}
-use Rattle.cvc_lex.specs.Lines.{fault_on}
+use Rattle.cvc_base.specs.Faults.{fault_on}
 use Rattle.cvc_run.specs.Report.{DeviceLabel, Labels}
 use Rattle.cvc_run.specs.Judged.{judged}
 use Rattle.cvc_run.specs.Forms.{Card, card_verdict, model_verdict, supply_verdict}

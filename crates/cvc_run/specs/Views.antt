@@ -4,7 +4,7 @@ use Rattle.std.specs.declared.alloc.Global.{Global}
 use Rattle.cvc_base.specs.declared.cause.Cause.TheVariants.{UnknownNet}
 use Rattle.cvc_base.specs.declared.fault.FileKind.TheVariants.{Power}
 use Rattle.cvc_law.specs.declared.interval.Fixed.{Fixed}
-use Rattle.cvc_lex.specs.Lines.{fault_on}
+use Rattle.cvc_base.specs.Faults.{fault_on}
 use Rattle.cvc_law.specs.Network.{nets, devices}
 use Rattle.cvc_run.specs.Resistors.{AreResistors}
 use Rattle.cvc_run.specs.Reading.{Design, Reading, Refused, Accepted, declared_at, unknown_row}

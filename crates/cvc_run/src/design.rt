@@ -3,7 +3,7 @@ ghost use Rattle.std.specs.Prelude.{◌≡◌, ◌<◌, ◌≤◌, ◌∷◌, []
 ghost use Rattle.std.specs.Option.{option_or};
 ghost use Rattle.cvc_base.specs.declared.cause.Cause.TheVariants.{UnknownNet};
 ghost use Rattle.cvc_base.specs.declared.fault.FileKind.TheVariants.{Power};
-ghost use Rattle.cvc_lex.specs.Lines.{fault_on};
+ghost use Rattle.cvc_base.specs.Faults.{fault_on};
 ghost use Rattle.cvc_run.specs.Apart.{AreApart};
 ghost use Rattle.cvc_run.specs.Reading.{bound, fixed_by, net_names, no_volts, resistor};
 ghost use Rattle.cvc_run.specs.Names.{cards_view};

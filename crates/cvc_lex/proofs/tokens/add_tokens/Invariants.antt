@@ -1,6 +1,4 @@
-use Rattle.std.proofs.Common.{◌≡◌, ◌+◌, ◌-◌, ◌≤◌, ◌++◌, length, drop, false}
-use Rattle.std.specs.List.{list_any}
-use Rattle.cvc_lex.specs.Physical.{tokens_from, is_long}
+use Rattle.std.proofs.Common.{◌-◌, length}
 use Rattle.cvc_lex.proofs.Adding.{IsAdding}
 use Rattle.cvc_lex.proofs.tokens.add_tokens.Given as goal
 

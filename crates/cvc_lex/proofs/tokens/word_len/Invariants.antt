@@ -1,7 +1,10 @@
-use Rattle.std.proofs.Common.{◌≡◌, ◌+◌, drop}
+use Rattle.std.proofs.Common.{◌≡◌, ◌+◌, ◌-◌, ◌≤◌, length, drop}
 use Rattle.std.specs.List.{prefix_len}
 use Rattle.cvc_lex.specs.Bytes.{is_word}
 use Rattle.cvc_lex.proofs.tokens.word_len.Given as goal
 
 abbrev pub invariant-loop-i : goal.invariant-loop-i
-invariant-loop-i l = l.i + prefix_len (is_word l.file) (drop l.i l.text) ≡ prefix_len (is_word l.file) l.text
+invariant-loop-i l = (l.i ≤ length l.text) × (l.i + prefix_len (is_word l.file) (drop l.i l.text) ≡ prefix_len (is_word l.file) l.text)
+
+abbrev pub decreases-loop-i : goal.decreases-loop-i
+decreases-loop-i l = length l.text - l.i

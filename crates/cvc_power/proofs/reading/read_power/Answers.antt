@@ -2,7 +2,7 @@ use Rattle.std.proofs.Common.{◌≡◌, ◌∙◌, [], None, Err, subst}
 use Rattle.std.proofs.lemmas.Result.{err_from_is_err_and}
 use Rattle.cvc_base.specs.declared.fault.FileKind.{FileKind}
 use Rattle.cvc_base.specs.declared.fault.FileKind.TheVariants.{Power}
-use Rattle.cvc_lex.specs.Lexing.{Refuses}
+use Rattle.cvc_base.specs.Answers.{Refuses}
 use Rattle.cvc_lex.specs.Lines.{lexical}
 use Rattle.cvc_power.proofs.Verdicts.{AtFault-weaker}
 use Rattle.cvc_power.proofs.Whole.{gives_rows, gives_lexical, gives_fault}

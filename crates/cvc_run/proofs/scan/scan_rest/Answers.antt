@@ -2,7 +2,8 @@ use Rattle.std.proofs.Common.{rules, ℕ, List, ◌++◌, ◌∙◌, subst, take
 use Rattle.std.specs.Prelude.{Err}
 use Rattle.cvc_base.specs.declared.fault.FileKind.{FileKind}
 use Rattle.cvc_io.specs.Files.{Takes}
-use Rattle.cvc_lex.specs.Lexing.{Refuses, IfAt, IsFirstFaultOf}
+use Rattle.cvc_base.specs.Answers.{Refuses, IfAt}
+use Rattle.cvc_lex.specs.Lexing.{IsFirstFaultOf}
 use Rattle.cvc_lex.specs.Lines.{lexical}
 use Rattle.cvc_run.proofs.Scanned.{scanned_at_end, scanned_before, counted, takes_more, none_taken, longer, rest_read, whole_read}
 use Rattle.cvc_run.proofs.scan.scan_rest.Goals as goal
