@@ -8,3 +8,8 @@ pub mod LineEnds
 pub mod Readings
 pub mod Handing
 pub mod Finding
+pub mod Comments
+pub mod Tokened
+pub mod Counted
+pub mod Judging
+pub mod JudgedFiles

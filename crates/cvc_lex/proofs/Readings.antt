@@ -11,9 +11,10 @@ use Rattle.cvc_base.specs.declared.stop.Stop.TheVariants.{At, NoMemory}
 use Rattle.cvc_lex.specs.Bytes.{file_limit}
 use Rattle.cvc_lex.specs.Physical.{Read, read}
 use Rattle.cvc_lex.specs.Lexing.{Lexing, StandsFor}
+use Rattle.cvc_lex.specs.Comments.{Shortens}
 use Rattle.cvc_lex.specs.Lined.{IsLineEnd, HasNoEnd}
 use Rattle.cvc_lex.specs.Scanning.{with_shape, Stays, Ends, counted, refusal_of, outcome, Reads, IsGoing, Closes, at_end, EndsStream, CountsBytes}
-use Rattle.cvc_lex.proofs.Standing.{keeping, passing, wanting, ending, kept_feed, finish_empty, finish_stop, finish_close}
+use Rattle.cvc_lex.proofs.Standing.{keeping, shortened, passing, wanting, ending, kept_feed, finish_empty, finish_stop, finish_close}
 
 -- what the end of a line leaves
 record Keeps (old new : Lexing) : Type 0 where
@@ -63,6 +64,14 @@ module _ (x : Lexing) (going : IsGoing x) (bytes : List ℕ) where
   keep_want m r h =
       let P : Lexing → Type 0 = λ y. Stays x (record y { rest = r }) in
       want (record m { rest = r }) (subst P (sym h) (record { file = refl; finished = refl; refused = refl; waiting = refl; count = refl }))
+
+  -- what is kept is shortened
+  pub keep_short : (y z : Lexing) (done : Unit {0}) (result : Result (Unit {0}) Stop) → Reads x y bytes (Ok done) → Reads x y bytes (Err NoMemory) → Shortens y z result → Reads x z bytes result
+  keep_short y z done (Ok u) a w h =
+      let P : Lexing → Type 0 = λ v. Reads x v bytes (Ok u) in
+      subst P (sym h.0) (record { file = a.file; finished = a.finished; refused = a.refused; stands = λ s n st. shortened y (s ++ bytes) n (record { finished = a.finished; refused = a.refused }) (a.stands s n st) z.rest h.1 h.2 h.3 })
+  keep_short y z done (Err (At cause)) a w h = absurd h
+  keep_short y z done (Err NoMemory) a w h = let P : Lexing → Type 0 = λ v. Reads x v bytes (Err NoMemory) in subst P (sym h) w
 
   -- the line ends in a state whose rest was taken out
   ends_line : IsLineEnd bytes → x.size + length bytes ≤ file_limit x.file → (new : Lexing) (result : Result (Unit {0}) Stop)

@@ -175,6 +175,17 @@ module _ (x : Lexing) (s : List ℕ) (n : ℕ) (going : IsGoing x) (st : StandsF
       nil_parts [] ys h = (refl, h)
       nil_parts (z ∷ xs) ys h = absurd cc
 
+  -- other bytes are kept of the open line, which read the same
+  pub shortened : (r : List ℕ) → ReadsAs x.file r x.rest → (r ≡ [] → x.rest ≡ []) → (x.rest ≡ [] → r ≡ []) → StandsFor (record x { rest = r }) s n
+  shortened r same none some = stands_none (record x { rest = r }) s n false going.finished going.refused (inside x s n false going.finished st) known.0 known.1 (λ _. record {
+    count = reading.count;
+    size = reading.size;
+    started = reading.started;
+    rest = λ more number. same more number ∙ reading.rest more number;
+    none = λ e. reading.none (none e);
+    begun = λ e. some (reading.begun e);
+  })
+
   -- bytes that end the line
   line_ended : (bytes : List ℕ) → IsLineEnd bytes → ended (s ++ bytes) ≡ ended s ++ (open_rest s ++ bytes) ∷ []
   line_ended bytes end =

@@ -11,15 +11,15 @@ use Rattle.cvc_lex.specs.Lines.{joined}
 abbrev pub NoFeed : List ℕ → Type 0
 NoFeed xs = list_any is_line_feed xs ≡ false
 
-ended-cons : (x : ℕ) (xs : List ℕ) → ended (x ∷ xs) ≡ cond (is_line_feed x) ((x ∷ []) ∷ ended xs) (onto_line x (ended xs))
+pub ended-cons : (x : ℕ) (xs : List ℕ) → ended (x ∷ xs) ≡ cond (is_line_feed x) ((x ∷ []) ∷ ended xs) (onto_line x (ended xs))
 unfolding ended
 ended-cons x xs = refl
 
-ended-nil : ended [] ≡ []
+pub ended-nil : ended [] ≡ []
 unfolding ended
 ended-nil = refl
 
-rest-cons : (x : ℕ) (xs : List ℕ) → open_rest (x ∷ xs) ≡ cond (list_any is_line_feed (x ∷ xs)) (open_rest xs) (x ∷ xs)
+pub rest-cons : (x : ℕ) (xs : List ℕ) → open_rest (x ∷ xs) ≡ cond (list_any is_line_feed (x ∷ xs)) (open_rest xs) (x ∷ xs)
 unfolding open_rest
 rest-cons x xs = refl
 

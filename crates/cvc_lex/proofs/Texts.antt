@@ -89,7 +89,7 @@ module _ (kind : FileKind) (number : ℕ) where
       not_sign : (y : ℕ) → is_blank y ≡ true → (y == 61) ≡ false
       not_sign y e = grind (arith, nat_tests)
 
-  tokens-blank : (c x : ℕ) (xs : List ℕ) → is_blank x ≡ true → tokens false c (x ∷ xs) ≡ tokens false (c + 1) xs
+  pub tokens-blank : (c x : ℕ) (xs : List ℕ) → is_blank x ≡ true → tokens false c (x ∷ xs) ≡ tokens false (c + 1) xs
   tokens-blank c x xs e = rw (tokens-cons false c x xs, blank_not_alone x e, e) refl
 
   skip_blanks : (c : ℕ) (xs : List ℕ) → tokens false c xs ≡ tokens false (c + prefix_len is_blank xs) (drop (prefix_len is_blank xs) xs)

@@ -3,6 +3,9 @@ pub mod Physical
 pub mod Lines
 pub mod Lexing
 pub mod Lined
+pub mod Comments
 pub mod Stops
 pub mod Scanning
 pub mod Examples
+pub mod Laws
+pub mod Judged

@@ -2,6 +2,7 @@
 //! lines that are closed in the stream so far, and refuses with the first fault of the stream.
 #![tactic(auto)]
 
+pub mod laws;
 mod physical;
 mod scanner;
 mod shape;

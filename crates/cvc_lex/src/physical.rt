@@ -1,7 +1,8 @@
 //! The text of a physical line, and what the line is.
-ghost use Rattle.std.specs.Prelude.{◌≡◌, ◌+◌, ◌<◌, ◌≤◌, ◌==◌, length, drop, not};
+ghost use Rattle.std.specs.Prelude.{◌≡◌, ◌+◌, ◌<◌, ◌≤◌, ◌==◌, IfSome, length, drop, not};
 ghost use Rattle.std.specs.List.{list_any, position_or_len, prefix_len};
 ghost use Rattle.cvc_lex.specs.Bytes.{is_netlist as netlist_of, is_blank as blank_of, is_bad as bad_of, file_limit as limit_of};
+ghost use Rattle.cvc_lex.specs.Comments.{begins_comment as comment_in, card_comment as card_comment_in, row_comment as row_comment_in, IsShort};
 ghost use Rattle.cvc_lex.specs.Lined.{IsFirstLine};
 ghost use Rattle.cvc_lex.specs.Physical.{without_last as without_last_of, text_of as text_in, is_lone_dollar as lone_dollar_at, first_place, cut as cut_of, unindented, card_shape as shape_of_card, shape_of as shape_in};
 
@@ -154,6 +155,54 @@ fn card_shape(rest: &[u8]) -> Shape
         [b'+', ..] => Shape::Continuation,
         [_, ..] => Shape::Card,
     }
+}
+
+// Whether a line of a netlist is a comment however it goes on, from its first byte on that is no blank.
+fn card_comment(rest: &[u8]) -> bool
+    ensures { result ≡ card_comment_in rest.now }
+{
+    match rest {
+        [b'*', next, ..] => *next != b'.',
+        _ => false,
+    }
+}
+
+// The same of another file.
+fn row_comment(rest: &[u8]) -> bool
+    ensures { result ≡ row_comment_in rest.now }
+{
+    match rest {
+        [b'#', ..] => true,
+        _ => false,
+    }
+}
+
+// Whether a line that begins so is a comment, however it goes on.
+fn begins_comment(file: FileKind, line: &[u8]) -> bool
+    ensures { result ≡ comment_in file line.now }
+{
+    let rest = &line[indent(line)..];
+    if is_netlist(file) {
+        card_comment(rest)
+    } else {
+        row_comment(rest)
+    }
+}
+
+// A shorter line that reads the same as a comment that goes on: its mark, a bad byte if one came, and the last two bytes, since a CR and an LF
+// at the end are no part of the text.
+pub(crate) fn short_comment(file: FileKind, line: &[u8]) -> Option<[u8; 4]>
+    ensures { IfSome result (λ short. IsShort file short line.now) }
+{
+    let [front @ .., before, last] = line else {
+        return None;
+    };
+    if front.len() < 3 || !begins_comment(file, line) {
+        return None;
+    }
+    let mark = if is_netlist(file) { b'*' } else { b'#' };
+    let witness = if has_bad_byte(front) { 0 } else { b' ' };
+    Some([mark, witness, *before, *last])
 }
 
 #[tactic(auto, unfolding(crate::specs::Physical::shape_of))]

@@ -3,7 +3,7 @@ ghost use Rattle.std.specs.Prelude.{◌≡◌, ◌+◌, ◌<◌, ◌≤◌, ◌+
 ghost use Rattle.std.specs.Option.{ForSome};
 
 use crate::physical::{
-    cut, file_limit, has_bad_byte, indent, is_netlist, line_len, shape_of, text_of,
+    cut, file_limit, has_bad_byte, indent, is_netlist, line_len, shape_of, short_comment, text_of,
 };
 use crate::shape::Shape;
 use crate::tokens::add_tokens;
@@ -48,6 +48,7 @@ impl Scanner {
     ghost use Rattle.cvc_lex.specs.Bytes.{file_limit as limit_of, is_netlist as netlist_of, is_blank};
     ghost use Rattle.cvc_lex.specs.Physical.{read, shape_of as shape_in};
     ghost use Rattle.cvc_base.specs.Answers.{refusal_in};
+    ghost use Rattle.cvc_lex.specs.Comments.{Shortens};
     ghost use Rattle.cvc_lex.specs.Lined.{IsLineEnd, HasNoEnd};
     ghost use Rattle.cvc_lex.specs.Scanning.{lexing_of, Adds, Ends, Closes, IsGoing, Reads, EndsStream, CountsBytes, outcome, shaped, start_read, start_shape, continuation_read};
 
@@ -186,6 +187,17 @@ impl Scanner {
         Ok(())
     }
 
+    // Of a comment that goes on little is kept.
+    fn shorten(&mut self) -> Result<(), Stop>
+        ensures { Shortens (lexing_of self.old) (lexing_of self.new) result }
+    {
+        let Some(short) = short_comment(self.file, &self.rest) else {
+            return Ok(());
+        };
+        self.rest = Vec::from_slice(self.alloc, &short)?;
+        Ok(())
+    }
+
     // The physical line goes on with these bytes, and more of it may come.
     fn keep(&mut self, bytes: &[u8]) -> Result<(), Stop>
         requires going { IsGoing (lexing_of self.old) }
@@ -194,7 +206,7 @@ impl Scanner {
     {
         self.count_bytes(bytes.len())?;
         self.rest.extend_from_slice(bytes)?;
-        Ok(())
+        self.shorten()
     }
 
     // The physical line ends with these bytes.

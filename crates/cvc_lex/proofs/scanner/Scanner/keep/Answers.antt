@@ -1,7 +1,7 @@
 use Rattle.std.proofs.Common.{inl}
 use Rattle.std.proofs.lemmas.Result.{err_from_is_err_and}
 use Rattle.cvc_lex.specs.Scanning.{lexing_of}
-use Rattle.cvc_lex.proofs.Readings.{count_stop, keep_ok, keep_want}
+use Rattle.cvc_lex.proofs.Readings.{count_stop, keep_ok, keep_short, keep_want}
 use Rattle.cvc_lex.proofs.scanner.Scanner.keep.Goals as goal
 
 pub returns-in_err-count_bytes : goal.returns-in_err-count_bytes
@@ -15,4 +15,7 @@ returns-in_err-extend_from_slice c =
     rw (p.1, p.2) (keep_want (lexing_of c.args.self.now) c.requires.going c.args.bytes.now (lexing_of c.count_bytes.new.self) c.extend_from_slice.new.self.items c.in_ok-count_bytes.ensures.1)
 
 pub returns : goal.returns
-returns c = keep_ok (lexing_of c.args.self.now) c.requires.going c.args.bytes.now (lexing_of c.count_bytes.new.self) c.extend_from_slice.new.self.items tt c.requires.bytes c.in_ok-count_bytes.ensures c.in_ok-extend_from_slice.ensures.items
+returns c =
+    let kept = keep_ok (lexing_of c.args.self.now) c.requires.going c.args.bytes.now (lexing_of c.count_bytes.new.self) c.extend_from_slice.new.self.items tt c.requires.bytes c.in_ok-count_bytes.ensures c.in_ok-extend_from_slice.ensures.items in
+    let wanted = keep_want (lexing_of c.args.self.now) c.requires.going c.args.bytes.now (lexing_of c.count_bytes.new.self) c.extend_from_slice.new.self.items c.in_ok-count_bytes.ensures.1 in
+    keep_short (lexing_of c.args.self.now) c.requires.going c.args.bytes.now (record (lexing_of c.count_bytes.new.self) { rest = c.extend_from_slice.new.self.items }) (lexing_of c.shorten.new.self) tt c.shorten.result kept wanted c.shorten.ensures
