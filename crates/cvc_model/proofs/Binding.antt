@@ -13,6 +13,7 @@ use Rattle.cvc_base.specs.declared.device.Volts.{Volts}
 use Rattle.cvc_base.specs.declared.fault.Fault.{Fault}
 use Rattle.cvc_base.specs.declared.fault.FileKind.TheVariants.{Models}
 use Rattle.cvc_base.specs.declared.line.Line.{Line}
+use Rattle.cvc_base.specs.Verdicts.{in_front, rows_or_fault, then_lexical}
 use Rattle.cvc_lex.specs.Lines.{closed_at_end, lexical}
 use Rattle.cvc_units.specs.declared.fault.NumFault.{NumFault}
 use Rattle.cvc_units.specs.Number.{number_of}
@@ -21,7 +22,7 @@ use Rattle.cvc_model.specs.Words.{kind_of}
 use Rattle.cvc_model.specs.Items.{Item, Sets, IsLess, IsAtLeast, item_in}
 use Rattle.cvc_model.specs.Settings.{Setting, has_key, key_of, limit_in, then_with, thresholds_in, twice, unless_negative, voltage_for, voltage_of, voltages_for, voltages_under, with_key, with_setting}
 use Rattle.cvc_model.specs.Rows.{Content, corners_of, in_order, magnitude_of, no_content, row_from, row_in, row_of, row_with, text_of, volts_of, volts_with, with_item, with_settings, with_test, with_text, with_texts}
-use Rattle.cvc_model.specs.Models.{at_line, in_front, models_of, rows_or_fault, then_lexical, verdict}
+use Rattle.cvc_model.specs.Models.{at_line, models_of, verdict}
 use Rattle.cvc_model.specs.Bindable.{AreBindable, AreVoltsOf}
 use Rattle.cvc_model.proofs.Counting.{few_lines}
 

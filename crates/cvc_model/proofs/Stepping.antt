@@ -8,12 +8,14 @@ use Rattle.cvc_model.specs.declared.choosing.Outcome.{Outcome}
 use Rattle.cvc_model.specs.declared.choosing.Outcome.TheVariants.{Holds}
 use Rattle.cvc_model.specs.declared.draft.Draft.{Draft}
 use Rattle.cvc_model.specs.declared.row.Test.{Test}
-use Rattle.cvc_model.specs.declared.stop.Stop.{Stop}
-use Rattle.cvc_model.specs.declared.stop.Stop.TheVariants.{At, NoMemory}
+use Rattle.cvc_base.specs.declared.stop.Stop.{Stop}
+use Rattle.cvc_base.specs.declared.stop.Stop.TheVariants.{At, NoMemory}
+use Rattle.cvc_base.specs.Answers.{GivesOrStops}
+use Rattle.cvc_model.specs.declared.row.ModelRow.{ModelRow}
 use Rattle.cvc_model.specs.Chosen.{outcome_of, outcome_of_test, while_holds}
 use Rattle.cvc_model.specs.Settings.{then_with}
 use Rattle.cvc_model.specs.Rows.{Content, text_of, with_text, with_texts}
-use Rattle.cvc_model.specs.Drafting.{AtCause, IsDraft, KeepsDraft}
+use Rattle.cvc_model.specs.Drafting.{IsDraft, KeepsDraft}
 
 drop_read : {A : Type 0} (xs : List A) (i : ℕ) (x : A) → i < length xs → x ≡ get_or xs i x → drop i xs ≡ x ∷ drop (i + 1) xs
 drop_read xs i x within at = drop-cons xs i x within ∙ ap (λ y. y ∷ drop (suc i) xs) (sym at) ∙ ap (λ n. x ∷ drop n xs) (sym (add-one i))
@@ -30,9 +32,15 @@ module _ (tests items : List Test) (same : items ≡ tests) (params : List Param
   unfolding outcome_of
   no_test past = sym (so_far ∙ ap (λ ts. outcome_of ts params) (subst (λ (ts : List Test). drop i ts ≡ []) same (drop_of_length-le _ past)))
 
-pub AtCause-weaker : (stop : Stop) (P Q : Cause → Type 0) → ((cause : Cause) → P cause → Q cause) → AtCause stop P → AtCause stop Q
-AtCause-weaker (At cause) P Q f h = f cause h
-AtCause-weaker NoMemory P Q f h = tt
+-- a stop of an answer is one of another that has its causes
+pub stop_kept : (stop : Stop) (a b : Result Content Cause) → ((cause : Cause) → a ≡ Err cause → b ≡ Err cause) → KeepsDraft (Err stop) a → KeepsDraft (Err stop) b
+stop_kept (At cause) a b f h = f cause h
+stop_kept NoMemory a b f h = tt
+
+pub stop_given : (stop : Stop) (a : Result Content Cause) (b : Result ModelRow Cause) → ((cause : Cause) → a ≡ Err cause → b ≡ Err cause) → KeepsDraft (Err stop) a
+    → GivesOrStops {A = ModelRow} (λ (row : ModelRow). row) (Err stop) b
+stop_given (At cause) a b f h = f cause h
+stop_given NoMemory a b f h = tt
 
 -- the draft of an answer, which stands for its content
 pub of_draft : (draft : Draft) (answer : Result Content Cause) → KeepsDraft (Ok draft) answer → (content : Content) × ((answer ≡ Ok content) × IsDraft draft content)

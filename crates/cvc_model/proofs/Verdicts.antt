@@ -6,12 +6,13 @@ use Rattle.cvc_base.specs.declared.fault.Refusal.{Refusal}
 use Rattle.cvc_base.specs.declared.fault.Refusal.TheVariants.{At, NoMemory}
 use Rattle.cvc_base.specs.declared.line.Line.{Line}
 use Rattle.cvc_model.specs.declared.row.ModelRow.{ModelRow}
-use Rattle.cvc_lex.specs.Lines.{fault_on}
-use Rattle.cvc_model.specs.declared.stop.Stop.{Stop}
-use Rattle.cvc_model.specs.declared.stop.Stop.TheVariants.{At as StopsAt, NoMemory as OutOfMemory}
-use Rattle.cvc_model.specs.Drafting.{AtCause}
+use Rattle.cvc_base.specs.declared.stop.Stop.{Stop}
+use Rattle.cvc_base.specs.declared.stop.Stop.TheVariants.{At as StopsAt, NoMemory as OutOfMemory}
+use Rattle.cvc_base.specs.Answers.{Gives, GivesOrStops, IfAt}
+use Rattle.cvc_base.specs.Faults.{fault_on, refusal_on}
+use Rattle.cvc_base.specs.Verdicts.{in_front, rows_or_fault}
 use Rattle.cvc_model.specs.Rows.{row_of}
-use Rattle.cvc_model.specs.Models.{at_line, verdict, rows_or_fault, in_front, AtFault, refusal_of}
+use Rattle.cvc_model.specs.Models.{at_line, verdict}
 
 -- rows in front of an answer
 abbrev pub behind : List ModelRow → Result (List ModelRow) Fault → Result (List ModelRow) Fault
@@ -38,9 +39,11 @@ behind-fault : (rows : List ModelRow) (line : Line) (lines : List Line) (fault :
 unfolding rows_or_fault
 behind-fault rows line lines fault e = ap (λ v. behind rows (in_front v (rows_or_fault (map verdict lines)))) e
 
-pub AtFault-weaker : (r : Refusal) (P Q : Fault → Type 0) → ((fault : Fault) → P fault → Q fault) → AtFault r P → AtFault r Q
-AtFault-weaker (At fault) P Q f h = f fault h
-AtFault-weaker NoMemory P Q f h = tt
+-- a refusal of an answer is one of another that has its faults
+pub refusal_given : (r : Refusal) (a b : Result (List ModelRow) Fault) → ((fault : Fault) → a ≡ Err fault → b ≡ Err fault) → Gives {A = List ModelRow} (λ (rows : List ModelRow). rows) (Err r) a
+    → IfAt {A = List ModelRow} (Err r) (λ fault. b ≡ Err fault)
+refusal_given (At fault) a b f h = f fault h
+refusal_given NoMemory a b f h = tt
 
 -- one line further in the walk
 module _ (answer : Result (List ModelRow) Fault) (rows : List ModelRow) (waiting : List Line) (rest : answer ≡ behind rows (rows_or_fault (map verdict waiting))) where
@@ -54,7 +57,7 @@ module _ (answer : Result (List ModelRow) Fault) (rows : List ModelRow) (waiting
     pub at_fault : (fault : Fault) → verdict line ≡ Err fault → answer ≡ Err fault
     at_fault fault e = on ∙ behind-fault rows line lines fault e
 
-    pub at_stop : (stop : Stop) → AtCause stop (λ cause. row_of line ≡ Err cause) → AtFault (refusal_of line.first stop) (λ fault. answer ≡ Err fault)
+    pub at_stop : (stop : Stop) → GivesOrStops {A = ModelRow} (λ (row : ModelRow). row) (Err stop) (row_of line) → Gives {A = List ModelRow} (λ (rows : List ModelRow). rows) (Err (refusal_on Models line.first stop)) answer
     at_stop (StopsAt cause) h = at_fault (fault_on Models line.first cause) (ap (at_line line.first) h)
     at_stop OutOfMemory h = tt
 

@@ -5,10 +5,12 @@ use Rattle.cvc_base.specs.declared.fault.FileKind.TheVariants.{Models}
 use Rattle.cvc_base.specs.declared.fault.Refusal.{Refusal}
 use Rattle.cvc_base.specs.declared.fault.Refusal.TheVariants.{At, NoMemory}
 use Rattle.cvc_base.specs.declared.line.Line.{Line}
-use Rattle.cvc_lex.specs.Lexing.{Lexing, StandsFor, HasRead, Refuses, closed_in}
+use Rattle.cvc_base.specs.Answers.{IfAt, Refuses}
+use Rattle.cvc_base.specs.Verdicts.{rows_or_fault, then_lexical}
+use Rattle.cvc_lex.specs.Lexing.{Lexing, StandsFor, HasRead, closed_in}
 use Rattle.cvc_lex.specs.Lines.{lexical, closed_at_end}
 use Rattle.cvc_model.specs.declared.row.ModelRow.{ModelRow}
-use Rattle.cvc_model.specs.Models.{AtFault, models_of, rows_or_fault, then_lexical, verdict}
+use Rattle.cvc_model.specs.Models.{models_of, verdict}
 use Rattle.cvc_model.proofs.Verdicts.{fault-append}
 
 abbrev judged : List Line → Result (List ModelRow) Fault
@@ -27,15 +29,15 @@ module _ (x : Lexing) (bytes : List ℕ) (stands : StandsFor x bytes 0) (file : 
       let waiting = (state_at None e).1 ∙ all_lines in
       ap (λ o. then_lexical o (judged (closed_at_end Models bytes))) none ∙ ap judged (sym waiting) ∙ fine
 
-  pub gives_lexical : (r : Refusal) → x.refused ≡ Some r → Refuses (lexical Models bytes) (Err r) → (rows : List ModelRow) → judged x.waiting ≡ Ok rows
-      → AtFault r (λ fault. models_of bytes ≡ Err fault)
+  pub gives_lexical : (r : Refusal) → x.refused ≡ Some r → Refuses {A = Unit {0}} (lexical Models bytes) (Err r) → (rows : List ModelRow) → judged x.waiting ≡ Ok rows
+      → IfAt {A = List ModelRow} (Err r) (λ fault. models_of bytes ≡ Err fault)
   unfolding models_of
   gives_lexical (At fault) e first rows fine =
       let waiting = (state_at (Some (At fault)) e).1 ∙ all_lines in
       ap (λ o. then_lexical o (judged (closed_at_end Models bytes))) first ∙ ap (then_lexical (Some fault)) (ap judged (sym waiting) ∙ fine)
   gives_lexical NoMemory e first rows fine = tt
 
-  fault_first : (o : Option Fault) (fault : Fault) → then_lexical o (Err fault) ≡ Err fault
+  fault_first : (o : Option Fault) (fault : Fault) → then_lexical {A = List ModelRow} o (Err fault) ≡ Err fault
   fault_first None fault = λ i. Err fault
   fault_first (Some other) fault = λ i. Err fault
 

@@ -2,8 +2,8 @@
 -- calls speak of it.
 use Rattle.std.specs.Prelude.{◌≡◌, ℕ, List, Result, Ok, Err, ℤ, codes}
 use Rattle.cvc_base.specs.declared.cause.Cause.{Cause}
-use Rattle.cvc_model.specs.declared.stop.Stop.{Stop}
-use Rattle.cvc_model.specs.declared.stop.Stop.TheVariants.{At, NoMemory}
+use Rattle.cvc_base.specs.declared.stop.Stop.{Stop}
+use Rattle.cvc_base.specs.declared.stop.Stop.TheVariants.{At, NoMemory}
 use Rattle.cvc_model.specs.declared.key.Key.{Key}
 use Rattle.cvc_model.specs.declared.key.Key.TheVariants.{Vth, Vj, Vgs, Vgd, Vds, Vbs, Vbd, Vbg, Vf}
 use Rattle.cvc_model.specs.declared.key.Voltages.{Voltages}
@@ -14,15 +14,6 @@ use Rattle.cvc_model.specs.declared.item.Item.{Item as Sides}
 use Rattle.cvc_model.specs.Items.{Item, Sets, IsLess, IsAtLeast}
 use Rattle.cvc_model.specs.Settings.{Setting, voltages_for, voltage_for}
 use Rattle.cvc_model.specs.Rows.{Content}
-
--- a fact on the cause at which reading stopped; want of memory says nothing
-abbrev pub AtCause : Stop → (Cause → Type 0) → Type 0
-AtCause (At cause) P = P cause
-AtCause NoMemory P = Unit {0}
-
-abbrev pub IfCause : {A : Type 0} → Result A Stop → (Cause → Type 0) → Type 0
-IfCause (Ok x) P = Unit {0}
-IfCause (Err stop) P = AtCause stop P
 
 -- ## Items
 
@@ -78,7 +69,8 @@ KeepsSettings (Err cause) answer = answer ≡ Err cause
 abbrev pub KeepsDraft : Result Draft Stop → Result Content Cause → Type 0
 KeepsDraft (Ok draft) (Ok content) = IsDraft draft content
 KeepsDraft (Ok draft) (Err cause) = ⊥
-KeepsDraft (Err stop) answer = AtCause stop (λ cause. answer ≡ Err cause)
+KeepsDraft (Err (At cause)) answer = answer ≡ Err cause
+KeepsDraft (Err NoMemory) answer = Unit {0}
 
 -- the same of a call that changes a draft
 abbrev pub draft_in : Draft → Result (Unit {0}) Stop → Result Draft Stop

@@ -8,9 +8,8 @@ ghost use Rattle.cvc_model.specs.Drafting.{AreVoltages, IsDraft, KeepsContent, K
 use crate::item::{Sign, split_item};
 use crate::key::{Key, Voltages, key_of};
 use crate::row::{Test, Tests};
-use crate::stop::Stop;
 use crate::value::{limit, thresholds};
-use cvc_base::{Cause, Kind, Mv, Text, Token};
+use cvc_base::{Cause, Kind, Mv, Stop, Text, Token};
 use cvc_units::read_number;
 use std::alloc::Global;
 

@@ -12,7 +12,6 @@ mod key;
 mod models;
 mod reading;
 mod row;
-mod stop;
 mod value;
 mod words;
 

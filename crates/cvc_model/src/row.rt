@@ -29,12 +29,6 @@ pub struct ModelRow {
     pub line: u32,
 }
 
-fn zero() -> Mv
-    ensures { result ≡ pos 0 }
-{
-    Mv::new(0).unwrap()
-}
-
 fn magnitude(voltage: Mv) -> Mv
     ensures { result ≡ magnitude_of voltage }
 {
@@ -46,7 +40,7 @@ fn or_zero(voltage: Option<Mv>) -> Mv
 {
     match voltage {
         Some(voltage) => voltage,
-        None => zero(),
+        None => Mv::ZERO,
     }
 }
 
@@ -68,7 +62,7 @@ fn corners(kind: Kind, vth: Option<(Mv, Mv)>) -> Option<(Mv, Mv)>
         (Kind::Nmos, Some((first, second))) => Some(in_order(first, second)),
         (Kind::Pmos, Some((first, second))) => Some(in_order(magnitude(first), magnitude(second))),
         (Kind::Nmos | Kind::Pmos, None) => None,
-        _ => Some((zero(), zero())),
+        _ => Some((Mv::ZERO, Mv::ZERO)),
     }
 }
 

@@ -1,34 +1,35 @@
 use Rattle.std.proofs.Common.{◌∙◌, sym}
 use Rattle.std.proofs.lemmas.Result.{err_from_is_err_and}
-use Rattle.cvc_model.proofs.Stepping.{AtCause-weaker, of_draft}
+use Rattle.cvc_model.proofs.Stepping.{stop_given, of_draft}
 use Rattle.cvc_model.proofs.Tokens.{rest_of, short, unknown, bad_item, bad_volts, the_row}
 use Rattle.cvc_model.proofs.reading.read_row.Goals as goal
 
-pub returns-in_default-clause-fault : goal.returns-in_default-clause-fault
-returns-in_default-clause-fault c = short c.args.line.now c.as_slice.result.now c.as_slice.ensures c.in_default.len_below
+pub returns-in_default : goal.returns-in_default
+returns-in_default c = short c.args.line.now c.as_slice.result.now c.as_slice.ensures c.in_default.len_below
 
-pub returns-in_default-kind_of-clause-fault : goal.returns-in_default-kind_of-clause-fault
-returns-in_default-kind_of-clause-fault c =
+pub returns-in_default-kind_of : goal.returns-in_default-kind_of
+returns-in_default-kind_of c =
     unknown c.args.line.now c.as_slice.result.now c.as_slice.ensures c.name-item.result c.word-item.result c.in-len2-up.len_at_least c.name-item.is c.word-item.is
     c.bytes.result.now c.bytes.ensures _ (rest_of c.args.line.now c.as_slice.result.now c.as_slice.ensures) (sym c.in_default-kind_of.ensures)
 
-pub returns-in_err-draft-clause-fault : goal.returns-in_err-draft-clause-fault
-returns-in_err-draft-clause-fault c =
+pub returns-in_err-draft : goal.returns-in_err-draft
+returns-in_err-draft c =
     let p = err_from_is_err_and c.from_residual.result c.from_residual.ensures.1 in
-    rw (p.1, p.2) (AtCause-weaker c.in_err-draft.field-0.0 _ _
+    rw (p.1, p.2) (stop_given c.in_err-draft.field-0.0 _ _
     (λ cause bad. bad_item c.args.line.now c.as_slice.result.now c.as_slice.ensures c.name-item.result c.word-item.result c.in-len2-up.len_at_least c.name-item.is c.word-item.is
     c.bytes.result.now c.bytes.ensures _ (rest_of c.args.line.now c.as_slice.result.now c.as_slice.ensures) c.in-Some.kind (sym c.in-Some.ensures) cause bad)
     c.in_err-draft.ensures)
 
-pub returns-in-Err-clause-fault : goal.returns-in-Err-clause-fault
-returns-in-Err-clause-fault c =
+pub returns-in_err-volts : goal.returns-in_err-volts
+returns-in_err-volts c =
+    let p = err_from_is_err_and c.from_residual-in_err-volts.result c.from_residual-in_err-volts.ensures.1 in
     let said = of_draft _ _ c.in_ok-draft.ensures in
-    bad_volts c.args.line.now c.as_slice.result.now c.as_slice.ensures c.name-item.result c.word-item.result c.in-len2-up.len_at_least c.name-item.is c.word-item.is
-    c.bytes.result.now c.bytes.ensures _ (rest_of c.args.line.now c.as_slice.result.now c.as_slice.ensures) c.in-Some.kind (sym c.in-Some.ensures) said.0 said.1.0 c.in-Err.cause (sym (c.in-Err.ensures said.0.settings said.1.1.voltages))
+    rw (p.1, p.2) (bad_volts c.args.line.now c.as_slice.result.now c.as_slice.ensures c.name-item.result c.word-item.result c.in-len2-up.len_at_least c.name-item.is c.word-item.is
+    c.bytes.result.now c.bytes.ensures _ (rest_of c.args.line.now c.as_slice.result.now c.as_slice.ensures) c.in-Some.kind (sym c.in-Some.ensures) said.0 said.1.0 c.in_err-volts.field-0.0 (sym (c.in_err-volts.ensures said.0.settings said.1.1.voltages)))
 
-pub returns-clause-row : goal.returns-clause-row
-returns-clause-row c =
+pub returns : goal.returns
+returns c =
     let said = of_draft _ _ c.in_ok-draft.ensures in
     the_row c.args.line.now c.as_slice.result.now c.as_slice.ensures c.name-item.result c.word-item.result c.in-len2-up.len_at_least c.name-item.is c.word-item.is
-    c.bytes.result.now c.bytes.ensures _ (rest_of c.args.line.now c.as_slice.result.now c.as_slice.ensures) c.in-Some.kind (sym c.in-Some.ensures) said.0 said.1.0 c.in-Ok.volts (sym (c.in-Ok.ensures said.0.settings said.1.1.voltages))
+    c.bytes.result.now c.bytes.ensures _ (rest_of c.args.line.now c.as_slice.result.now c.as_slice.ensures) c.in-Some.kind (sym c.in-Some.ensures) said.0 said.1.0 c.in_ok-volts.volts (sym (c.in_ok-volts.ensures said.0.settings said.1.1.voltages))
     c.in_ok-of.field-0 (c.in_ok-of.ensures ∙ c.bytes-2.ensures) _ said.1.1.tests

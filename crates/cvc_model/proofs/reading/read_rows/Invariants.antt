@@ -1,5 +1,6 @@
 use Rattle.std.proofs.Common.{◌≡◌, map, length}
-use Rattle.cvc_model.specs.Models.{rows_or_fault, verdict}
+use Rattle.cvc_base.specs.Verdicts.{rows_or_fault}
+use Rattle.cvc_model.specs.Models.{verdict}
 use Rattle.cvc_model.proofs.Verdicts.{behind}
 use Rattle.cvc_model.proofs.reading.read_rows.Given as goal
 
