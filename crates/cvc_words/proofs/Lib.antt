@@ -1,3 +1,4 @@
+pub mod Worked
 pub mod Digits
 pub mod Limits
 pub mod Stepping
