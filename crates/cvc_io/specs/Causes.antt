@@ -2,8 +2,12 @@
 -- it is greater afterwards than before, or stands at the last value of every counter.
 use Rattle.std.specs.Prelude.{ℕ, ◌+◌, ◌-◌, ◌^◌, ◌≤◌, min, Result, OnErr}
 
+-- one more, up to the last value of the counter
+abbrev pub bump : ℕ → ℕ
+bump n = min (n + 1) (2 ^ 64 - 1)
+
 abbrev pub Rose : ℕ → ℕ → Type 0
-Rose before now = min (before + 1) (2 ^ 64 - 1) ≤ now
+Rose before now = bump before ≤ now
 
 -- the count has not fallen, and rose where the call failed
 pub record HasCause {T E : Type 0} (before now : ℕ) (result : Result T E) : Type 0 where

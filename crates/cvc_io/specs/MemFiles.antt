@@ -1,5 +1,5 @@
 -- The files of a shelf in memory, and what stands open of them.
-use Rattle.std.specs.Prelude.{◌≡◌, ℕ, suc, ◌+◌, ◌-◌, ◌^◌, ◌<◌, ◌≤◌, min, List, [], ◌∷◌, map, drop, length, Option, Some, None, Bool, if◌then◌else◌, slice_index, slice_index_or}
+use Rattle.std.specs.Prelude.{◌≡◌, ℕ, suc, ◌<◌, ◌≤◌, List, [], ◌∷◌, map, drop, length, Option, Some, None, Bool, if◌then◌else◌, slice_index, slice_index_or}
 use Rattle.std.specs.Str.{bytes_eq}
 use Rattle.cvc_io.specs.Files.{File, Standing, bytes_of}
 use Rattle.cvc_io.specs.declared.held.MemFile.{MemFile}
@@ -29,10 +29,6 @@ place_of (f ∷ fs) name = later_place (place_of fs name) (bytes_eq f.name name)
 abbrev pub count_at : List ℕ → ℕ → Option ℕ → ℕ
 count_at failures all (Some place) = slice_index failures place
 count_at failures all None = all
-
--- one more, up to the last value of the counter
-abbrev pub bump : ℕ → ℕ
-bump n = min (n + 1) (2 ^ 64 - 1)
 
 -- the place of a file of this name, whose bytes are those of the name
 pub record IsFound (files : List MemFile) (name : List ℕ) (place : ℕ) : Type 0 where

@@ -13,7 +13,7 @@ use std::{fs, str};
 #[derive(Drop)]
 pub struct FileShelf<'r, R: Files> {
     rt: &'r R,
-    open: Option<R::File>,
+    file: Option<R::File>,
     faults: u64,
 }
 
@@ -24,7 +24,7 @@ impl<'r, R: Files> FileShelf<'r, R> {
     {
         FileShelf {
             rt,
-            open: None,
+            file: None,
             faults: 0,
         }
     }
@@ -33,7 +33,7 @@ impl<'r, R: Files> FileShelf<'r, R> {
 impl<R: Files> Shelf for FileShelf<'_, R> {
     ghost files = { λ _. None };
 
-    ghost standing = { λ s. option_map (λ _. record { name = None; rest = None }) s.open };
+    ghost standing = { λ s. option_map (λ _. record { name = None; rest = None }) s.file };
 
     ghost faults = { λ s _. s.faults };
 
@@ -44,7 +44,7 @@ impl<R: Files> Shelf for FileShelf<'_, R> {
         };
         match opened {
             Some(file) => {
-                self.open = Some(file);
+                self.file = Some(file);
                 Ok(())
             }
             None => {
@@ -55,7 +55,7 @@ impl<R: Files> Shelf for FileShelf<'_, R> {
     }
 
     fn read(&mut self, buf: &mut [u8]) -> Result<usize, ReadFailed> {
-        match &mut self.open {
+        match &mut self.file {
             Some(file) => match file.read(buf) {
                 Ok(count) => Ok(count),
                 Err(_) => {
@@ -68,6 +68,6 @@ impl<R: Files> Shelf for FileShelf<'_, R> {
     }
 
     fn close_file(&mut self) {
-        self.open = None;
+        self.file = None;
     }
 }

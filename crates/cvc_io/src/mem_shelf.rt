@@ -1,8 +1,10 @@
 //! A shelf in memory that can fail.
-ghost use Rattle.std.specs.Prelude.{◌≡◌, ◌<◌, ◌≤◌, ℕ, Option, Some, None, [], ◌∷◌, ◌++◌, OnOk, OnErr, length};
-ghost use Rattle.cvc_io.specs.Causes.{Rose};
+ghost use Rattle.std.specs.Prelude.{◌≡◌, ◌<◌, ◌≤◌, ℕ, Option, Some, None, [], ◌∷◌, ◌++◌, ◌&&◌, not, is_ok, OnOk, OnErr, IsSome, IsSomeAnd, length, slice_index, slice_set};
+ghost use Rattle.std.specs.Io.{ReadsAtMost};
+ghost use Rattle.cvc_io.specs.Causes.{HasCause, Rose, bump};
+ghost use Rattle.cvc_io.specs.Files.{IsOpened, Reads, NoneFalls, RoseFor};
 ghost use Rattle.std.specs.Option.{ForSome};
-ghost use Rattle.cvc_io.specs.MemFiles.{IsOpenFile, count_at, bump};
+ghost use Rattle.cvc_io.specs.MemFiles.{IsOpenFile, count_at};
 
 use crate::held::{MemFile, OpenFile, copy_from, find};
 use crate::{OpenFailed, ReadFailed, Shelf};
@@ -36,6 +38,8 @@ fn count(failures: &mut u64)
 // Counts a failure on the file at `place`.
 fn count_failure(failures: &mut [u64], all: &mut u64, place: usize)
     requires { place < length failures.old }
+    ensures own { failures.new ≡ slice_set failures.old place (bump (slice_index failures.old place)) }
+    ensures all { all.new ≡ bump all.old }
     ensures later { (o : Option ℕ) → count_at failures.old all.old o ≤ count_at failures.new all.new o }
     ensures cause { Rose (count_at failures.old all.old (Some place)) (count_at failures.new all.new (Some place)) }
 {
@@ -45,7 +49,7 @@ fn count_failure(failures: &mut [u64], all: &mut u64, place: usize)
 
 impl MemShelf {
     ghost use Rattle.cvc_io.specs.Files.{File};
-    ghost use Rattle.cvc_io.specs.Memory.{files_of, standing_of, counts_of, failing_of, calls_of};
+    ghost use Rattle.cvc_io.specs.Memory.{files_of, standing_of, counts_of, failing_of, calls_of, AreSame, CountsAdded};
 
     /// A shelf without files.
     pub fn new(alloc: Global) -> MemShelf
@@ -53,6 +57,7 @@ impl MemShelf {
         ensures standing { standing_of result ≡ None }
         ensures failing { failing_of result ≡ [] }
         ensures calls { calls_of result ≡ 0 }
+        ensures counts { AreSame (λ _. 0) (counts_of result) }
     {
         MemShelf {
             alloc,
@@ -65,7 +70,7 @@ impl MemShelf {
         }
     }
 
-    /// Puts a file on the shelf. A name that is added again has the later bytes.
+    /// Puts a file on the shelf. A name that is added again has the later bytes, and keeps its count of failures.
     pub fn add(&mut self, name: &[u8], bytes: &[u8]) -> Result<(), NoMemory>
         requires { standing_of self.old ≡ None }
         ensures ok { OnOk result (files_of self.new ≡ files_of self.old ++ record { name = name.now; bytes = bytes.now } ∷ []) }
@@ -73,14 +78,19 @@ impl MemShelf {
         ensures standing { standing_of self.new ≡ None }
         ensures failing { failing_of self.new ≡ failing_of self.old }
         ensures calls { calls_of self.new ≡ calls_of self.old }
+        ensures counts { CountsAdded (files_of self.old) name.now (is_ok result) (counts_of self.old) (counts_of self.new) }
     {
         let file = MemFile {
             name: Text::of(self.alloc, name)?,
             bytes: Text::of(self.alloc, bytes)?,
         };
+        let failures = match find(&self.files, name) {
+            Some(place) => self.failures[place],
+            None => 0,
+        };
         self.failures.reserve(1)?;
         self.files.push(file)?;
-        self.failures.push_reserved(0);
+        self.failures.push_reserved(failures);
         Ok(())
     }
 
@@ -91,6 +101,7 @@ impl MemShelf {
         ensures files { files_of self.new ≡ files_of self.old }
         ensures standing { standing_of self.new ≡ standing_of self.old }
         ensures calls { calls_of self.new ≡ calls_of self.old }
+        ensures counts { AreSame (counts_of self.old) (counts_of self.new) }
     {
         self.failing.push(call)?;
         Ok(())
@@ -98,7 +109,7 @@ impl MemShelf {
 }
 
 impl Shelf for MemShelf {
-    ghost use Rattle.cvc_io.specs.Memory.{files_of, standing_of, counts_of};
+    ghost use Rattle.cvc_io.specs.Memory.{files_of, standing_of, counts_of, failing_of, calls_of, is_held, is_to_fail, AreSame, CountsCall, CountsRead};
 
     ghost files = { λ s. Some (files_of s) };
 
@@ -106,7 +117,19 @@ impl Shelf for MemShelf {
 
     ghost faults = { counts_of };
 
-    fn open_file(&mut self, name: &[u8]) -> Result<(), OpenFailed> {
+    fn open_file(&mut self, name: &[u8]) -> Result<(), OpenFailed>
+        requires { standing_of self.old ≡ None }
+        ensures files { Some (files_of self.new) ≡ Some (files_of self.old) }
+        ensures opened { OnOk result (IsSomeAnd (standing_of self.new) (IsOpened (Some (files_of self.old)) name.now)) }
+        ensures refused { OnErr result (standing_of self.new ≡ None) }
+        ensures counts { NoneFalls (counts_of self.old) (counts_of self.new) }
+        ensures cause { HasCause (counts_of self.old name.now) (counts_of self.new name.now) result }
+        // It fails exactly where the call was to fail or the shelf lacks the name.
+        ensures fails { is_ok result ≡ (is_held (files_of self.old) name.now && not (is_to_fail (failing_of self.old) (calls_of self.old))) }
+        ensures moves { CountsCall (files_of self.old) name.now (is_ok result) (counts_of self.old) (counts_of self.new) }
+        ensures failing { failing_of self.new ≡ failing_of self.old }
+        ensures calls { calls_of self.new ≡ bump (calls_of self.old) }
+    {
         count(&mut self.calls);
         let fails = self.failing.contains(&self.calls);
         match find(&self.files, name) {
@@ -125,7 +148,20 @@ impl Shelf for MemShelf {
         }
     }
 
-    fn read(&mut self, buf: &mut [u8]) -> Result<usize, ReadFailed> {
+    fn read(&mut self, buf: &mut [u8]) -> Result<usize, ReadFailed>
+        requires open { IsSome (standing_of self.old) }
+        requires room { 0 < length buf.old }
+        ensures files { Some (files_of self.new) ≡ Some (files_of self.old) }
+        ensures bound { ReadsAtMost result buf.new }
+        ensures bytes { Reads (standing_of self.old) (standing_of self.new) result buf.new }
+        ensures counts { NoneFalls (counts_of self.old) (counts_of self.new) }
+        ensures cause { OnErr result (RoseFor (standing_of self.old) (counts_of self.old) (counts_of self.new)) }
+        // It fails exactly where the call was to fail.
+        ensures fails { is_ok result ≡ not (is_to_fail (failing_of self.old) (calls_of self.old)) }
+        ensures moves { CountsRead (files_of self.old) (standing_of self.old) (is_ok result) (counts_of self.old) (counts_of self.new) }
+        ensures failing { failing_of self.new ≡ failing_of self.old }
+        ensures calls { calls_of self.new ≡ bump (calls_of self.old) }
+    {
         let Some(open) = self.reading else {
             unreachable!()
         };
@@ -142,7 +178,15 @@ impl Shelf for MemShelf {
         Ok(taken)
     }
 
-    fn close_file(&mut self) {
+    fn close_file(&mut self)
+        requires { IsSome (standing_of self.old) }
+        ensures files { Some (files_of self.new) ≡ Some (files_of self.old) }
+        ensures closed { standing_of self.new ≡ None }
+        ensures counts { NoneFalls (counts_of self.old) (counts_of self.new) }
+        ensures same { AreSame (counts_of self.old) (counts_of self.new) }
+        ensures failing { failing_of self.new ≡ failing_of self.old }
+        ensures calls { calls_of self.new ≡ calls_of self.old }
+    {
         self.reading = None;
     }
 }
