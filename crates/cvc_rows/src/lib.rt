@@ -2,4 +2,6 @@
 #![tactic(auto)]
 
 #[cfg(test)]
+mod rules;
+#[cfg(test)]
 mod tests;
