@@ -1,2 +1,4 @@
 pub mod AtDevice
 pub mod Ranges
+pub mod Parts
+pub mod Shared

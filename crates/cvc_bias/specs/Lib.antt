@@ -1,3 +1,4 @@
 pub mod Bias
 pub mod Measured
 pub mod Found
+pub mod Parts

@@ -34,7 +34,7 @@ fn put(list: &mut Findings, found: Option<Finding>) -> Result<(), NoMemory>
 }
 
 /// Puts all findings of a list last.
-fn put_all(list: &mut Findings, found: &[Finding]) -> Result<(), NoMemory>
+fn put_all(found: &[Finding], list: &mut Findings) -> Result<(), NoMemory>
     ensures { OnOk result (list.new ≡ list.old ++ found.now) }
 {
     for finding in found {
@@ -45,7 +45,7 @@ fn put_all(list: &mut Findings, found: &[Finding]) -> Result<(), NoMemory>
 
 impl Found {
     /// Nothing found yet.
-    fn new(alloc: Global) -> Found
+    pub(crate) fn new(alloc: Global) -> Found
         ensures { (c : Network) (f : List Interval) (n : ℕ) → AreFound c f n n result }
     {
         Found {
@@ -104,14 +104,14 @@ impl Found {
     pub(crate) fn join(&mut self, next: &Found) -> Result<(), NoMemory>
         ensures { (c : Network) (f : List Interval) (start middle end : ℕ) → AreFound c f start middle self.old → AreFound c f middle end next.now → OnOk result (AreFound c f start end self.new) }
     {
-        put_all(&mut self.overvoltage_gs, next.overvoltage_gs.as_slice())?;
-        put_all(&mut self.overvoltage_gd, next.overvoltage_gd.as_slice())?;
-        put_all(&mut self.overvoltage_ds, next.overvoltage_ds.as_slice())?;
-        put_all(&mut self.overvoltage_bs, next.overvoltage_bs.as_slice())?;
-        put_all(&mut self.overvoltage_bd, next.overvoltage_bd.as_slice())?;
-        put_all(&mut self.overvoltage_bg, next.overvoltage_bg.as_slice())?;
-        put_all(&mut self.forward_bias, next.forward_bias.as_slice())?;
-        put_all(&mut self.source_bulk, next.source_bulk.as_slice())
+        put_all(next.overvoltage_gs.as_slice(), &mut self.overvoltage_gs)?;
+        put_all(next.overvoltage_gd.as_slice(), &mut self.overvoltage_gd)?;
+        put_all(next.overvoltage_ds.as_slice(), &mut self.overvoltage_ds)?;
+        put_all(next.overvoltage_bs.as_slice(), &mut self.overvoltage_bs)?;
+        put_all(next.overvoltage_bd.as_slice(), &mut self.overvoltage_bd)?;
+        put_all(next.overvoltage_bg.as_slice(), &mut self.overvoltage_bg)?;
+        put_all(next.forward_bias.as_slice(), &mut self.forward_bias)?;
+        put_all(next.source_bulk.as_slice(), &mut self.source_bulk)
     }
 
     /// All of them in one list, by rule.
@@ -119,13 +119,13 @@ impl Found {
         ensures { IfOk result (λ all. all ≡ by_rule self) }
     {
         let mut all = self.overvoltage_gs;
-        put_all(&mut all, self.overvoltage_gd.as_slice())?;
-        put_all(&mut all, self.overvoltage_ds.as_slice())?;
-        put_all(&mut all, self.overvoltage_bs.as_slice())?;
-        put_all(&mut all, self.overvoltage_bd.as_slice())?;
-        put_all(&mut all, self.overvoltage_bg.as_slice())?;
-        put_all(&mut all, self.forward_bias.as_slice())?;
-        put_all(&mut all, self.source_bulk.as_slice())?;
+        put_all(self.overvoltage_gd.as_slice(), &mut all)?;
+        put_all(self.overvoltage_ds.as_slice(), &mut all)?;
+        put_all(self.overvoltage_bs.as_slice(), &mut all)?;
+        put_all(self.overvoltage_bd.as_slice(), &mut all)?;
+        put_all(self.overvoltage_bg.as_slice(), &mut all)?;
+        put_all(self.forward_bias.as_slice(), &mut all)?;
+        put_all(self.source_bulk.as_slice(), &mut all)?;
         Ok(all)
     }
 }

@@ -16,3 +16,4 @@ pub mod ReachWords
 pub mod LawsExist
 pub mod LawsMonotone
 pub mod LawsUnique
+pub mod Shared

@@ -1,3 +1,5 @@
 pub mod AtDevice
 pub mod Ranges
 pub mod Leaks
+pub mod Parts
+pub mod Shared

@@ -1,3 +1,4 @@
 pub mod Leak
 pub mod Figures
 pub mod Found
+pub mod Parts

@@ -30,7 +30,7 @@ fn put(list: &mut Findings, found: Option<Finding>) -> Result<(), NoMemory>
 }
 
 /// Puts all findings of a list last.
-fn put_all(list: &mut Findings, found: &[Finding]) -> Result<(), NoMemory>
+fn put_all(found: &[Finding], list: &mut Findings) -> Result<(), NoMemory>
     ensures { OnOk result (list.new ≡ list.old ++ found.now) }
 {
     for finding in found {
@@ -41,7 +41,7 @@ fn put_all(list: &mut Findings, found: &[Finding]) -> Result<(), NoMemory>
 
 impl Found {
     /// Nothing found yet.
-    fn new(alloc: Global) -> Found
+    pub(crate) fn new(alloc: Global) -> Found
         ensures { (c : Network) (f : List Interval) (n : ℕ) → AreFound c f n n result }
     {
         Found {
@@ -80,10 +80,10 @@ impl Found {
     pub(crate) fn join(&mut self, next: &Found) -> Result<(), NoMemory>
         ensures { (c : Network) (f : List Interval) (start middle end : ℕ) → AreFound c f start middle self.old → AreFound c f middle end next.now → OnOk result (AreFound c f start end self.new) }
     {
-        put_all(&mut self.possible_leak, next.possible_leak.as_slice())?;
-        put_all(&mut self.supply_path, next.supply_path.as_slice())?;
-        put_all(&mut self.floating_gate, next.floating_gate.as_slice())?;
-        put_all(&mut self.sure_leak, next.sure_leak.as_slice())
+        put_all(next.possible_leak.as_slice(), &mut self.possible_leak)?;
+        put_all(next.supply_path.as_slice(), &mut self.supply_path)?;
+        put_all(next.floating_gate.as_slice(), &mut self.floating_gate)?;
+        put_all(next.sure_leak.as_slice(), &mut self.sure_leak)
     }
 
     /// All of them in one list, by rule.
@@ -91,9 +91,9 @@ impl Found {
         ensures { IfOk result (λ all. all ≡ by_rule self) }
     {
         let mut all = self.possible_leak;
-        put_all(&mut all, self.supply_path.as_slice())?;
-        put_all(&mut all, self.floating_gate.as_slice())?;
-        put_all(&mut all, self.sure_leak.as_slice())?;
+        put_all(self.supply_path.as_slice(), &mut all)?;
+        put_all(self.floating_gate.as_slice(), &mut all)?;
+        put_all(self.sure_leak.as_slice(), &mut all)?;
         Ok(all)
     }
 }

@@ -8,6 +8,8 @@ mod figures;
 mod found;
 pub mod laws;
 mod list;
+mod parallel;
 
 pub use at::leak_at;
 pub use list::list_leak;
+pub use parallel::par_list_leak;

@@ -7,3 +7,5 @@ mod cards;
 mod lines;
 #[cfg(test)]
 mod netlists;
+mod rules;
+mod tests;
