@@ -1,6 +1,8 @@
 -- Parts of a run, one after the other.
-use Rattle.std.proofs.Common.{◌≡◌, ℕ, zero, suc, ◌≤◌, List, [], ◌∷◌, ◌++◌, length, take, arith, ap, refl, sym, subst, ◌∙◌, append_assoc, append-nil, length-append, ◌<◌}
+use Rattle.std.proofs.Common.{Bool, true, false, ◌==◌, true≢false, eq-eqb, ◌≡◌, ℕ, zero, suc, ◌≤◌, List, [], ◌∷◌, ◌++◌, length, take, arith, ap, refl, sym, subst, ◌∙◌, append_assoc, append-nil, length-append, ◌<◌}
 use Rattle.std.specs.Prelude.{if◌then◌else◌}
+use mathlib.Core.Logic.{dite}
+use native.Mathlib.Decide.{ℕ_discrete}
 use Rattle.cvc_base.specs.declared.ids.DevId.{DevId}
 use Rattle.cvc_law.specs.Network.{Network}
 use Rattle.cvc_core.specs.declared.actor.Actor.{Actor}
@@ -119,3 +121,12 @@ noted_full s d full = sym (ap (λ (n : ℕ). take n (s ++ d ∷ [])) (sym full) 
   seam : (xs ys : List DevId) → take (length xs) (xs ++ ys) ≡ xs
   seam [] ys = refl
   seam (x ∷ xs) ys = ap (λ (l : List DevId). x ∷ l) (seam xs ys)
+
+pub noted_before : (s : List DevId) (d : DevId) (was : Bool) → was ≡ true → length s ≤ 32 → s ≡ take 32 (s ++ (if was then [] else d ∷ []))
+noted_before s d was e few = sym (ap (λ (b : Bool). take 32 (s ++ (if b then [] else d ∷ []))) e ∙ (ap (take 32) (append-nil s) ∙ take_all 32 s few))
+
+pub noted_now : (s t : List DevId) (d : DevId) (was : Bool) → was ≡ false → t ≡ take 32 (s ++ d ∷ []) → t ≡ take 32 (s ++ (if was then [] else d ∷ []))
+noted_now s t d was e is = is ∙ ap (λ (b : Bool). take 32 (s ++ (if b then [] else d ∷ []))) (sym e)
+
+pub room_left : (n : ℕ) → (n == 32) ≡ false → n ≤ 32 → n < 32
+room_left n e few = dite (ℕ_discrete n 32) (λ same. absurd (true≢false (sym (eq-eqb n 32 same) ∙ e))) (λ apart. omega arith)

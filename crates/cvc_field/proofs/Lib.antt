@@ -9,3 +9,4 @@ pub mod Bounds
 pub mod Parts
 pub mod Going
 pub mod Loading
+pub mod Giving

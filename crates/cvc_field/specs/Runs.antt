@@ -1,15 +1,16 @@
 -- How far the run of a device has come, by what its actor is at; and what a part of a run did.
-use Rattle.std.specs.Prelude.{◌≡◌, ℕ, ◌+◌, ◌*◌, ◌<◌, ◌≤◌, ◌%◌, ℤ, List, ◌++◌, Option, Some, None, IsSome, Bool, true, false, length, take, nat_lt, slice_index_or, if◌then◌else◌}
+use Rattle.std.specs.Prelude.{◌≡◌, ℕ, ◌+◌, ◌*◌, ◌<◌, ◌≤◌, ◌%◌, ℤ, List, ◌++◌, Option, Some, None, IsSome, Bool, true, false, length, take, nat_lt, slice_index_or, slice_set, if◌then◌else◌}
 use Rattle.cvc_base.specs.declared.ids.DevId.{DevId}
 use Rattle.cvc_law.specs.declared.interval.Interval.{Interval}
 use Rattle.cvc_law.specs.declared.interval.Reads.{Reads}
-use Rattle.cvc_law.specs.Network.{Network, fan_of}
-use Rattle.cvc_law.specs.Reach.{widest, bound_of}
+use Rattle.cvc_law.specs.Network.{Network, fan_of, is_declared}
+use Rattle.cvc_law.specs.Conduction.{given, target}
+use Rattle.cvc_law.specs.Reach.{widest, bound_of, device_at}
 use Rattle.cvc_core.specs.declared.actor.Debt.{Debt}
 use Rattle.cvc_core.specs.declared.actor.Run.{Run}
 use Rattle.cvc_core.specs.declared.actor.Actor.{Actor}
 use Rattle.cvc_core.specs.declared.actor.Actor.TheVariants.{Running}
-use Rattle.cvc_core.specs.State.{read_at, held, given_at}
+use Rattle.cvc_core.specs.State.{read_at, held, given_at, next_device}
 use Rattle.cvc_core.specs.Steps.{NothingGiven, IsLoaded, IsSettled}
 use Rattle.cvc_core.specs.Store.{IsReady, held_reads}
 use Rattle.cvc_field.specs.declared.view.View.{View}
@@ -68,3 +69,25 @@ interval_in bounds p = record { low = slice_index_or bounds (2 * p) None; high =
 
 abbrev pub reads_in : List (Option ℤ) → Reads
 reads_in bounds = record { a = interval_in bounds 0; b = interval_in bounds 1; g = interval_in bounds 2 }
+
+-- ---- single parts
+-- slot k may give this value
+abbrev pub MayGive : Network → DevId → ℕ → ℤ → Actor → Type 0
+MayGive c d k value a = (r : Run) × (a ≡ Running r) × IsReady c r × IsLoaded c r × (r.device ≡ d) × (r.owes ≡ None) × (given_at r k ≡ false)
+    × (is_declared c (target (device_at c d.0) k) ≡ false) × (given c (device_at c d.0) k (held_reads c r) ≡ Some value)
+
+-- slot k was given, and what is owed then
+abbrev pub given_run : ℕ → Option Debt → Run → Run
+given_run k debt r = record { device = r.device; reads = r.reads; given = slice_set r.given k true; owes = debt; credits = r.credits }
+
+-- with what is owed, and with a credit to spare or none
+abbrev pub with_debt : Option Debt → Bool → Run → Run
+with_debt debt spare r = record { device = r.device; reads = r.reads; given = r.given; owes = debt; credits = if spare then 2 else 1 }
+
+-- the device d is to be marked next
+abbrev pub IsOwing : Network → ℕ → Bool → Actor → Type 0
+IsOwing c d spare a = (r : Run) × (a ≡ Running r) × IsSome r.owes × (next_device c r ≡ d) × (r.credits ≡ (if spare then 2 else 1))
+
+-- a net is owed from a place of its fan on
+abbrev pub IsMarking : Network → ℕ → ℕ → Bool → Actor → Type 0
+IsMarking c net place spare a = (r : Run) × (a ≡ Running r) × (r.owes ≡ debt_from c net place) × (r.credits ≡ (if spare then 2 else 1))

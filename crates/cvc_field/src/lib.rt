@@ -3,6 +3,7 @@
 
 mod events;
 mod field;
+mod give;
 mod hand;
 mod load;
 mod opening;
@@ -11,11 +12,14 @@ mod plays;
 mod range;
 mod ranges;
 mod read;
+mod run;
 mod steps;
+mod tray;
 mod view;
 mod words;
 
 pub use field::Field;
 pub use hand::Hand;
 pub use plays::{Cut, FieldRule, Means};
+pub use tray::Tray;
 pub use view::{Entry, Plan, View};

@@ -1,5 +1,5 @@
 //! How a bound is stored in a word.
-ghost use Rattle.std.specs.Prelude.{◌≡◌, ◌%◌};
+ghost use Rattle.std.specs.Prelude.{◌≡◌, ◌%◌, Some, pos, neg_ℤ, ◌≤ℤ◌};
 ghost use Rattle.cvc_law.specs.Network.{Network};
 ghost use Rattle.cvc_law.specs.ReachWord.{stored, bound_in};
 ghost use Rattle.cvc_field.specs.Views.{IsBoundWord};
@@ -42,4 +42,12 @@ pub(crate) fn bound_in(index: usize, word: u64) -> Option<Mv>
     } else {
         Mv::new(word as i64 - ZERO)
     }
+}
+
+/// The word of a known bound.
+pub(crate) fn value_word(value: i64) -> u64
+    requires { (neg_ℤ (pos 1000000) ≤ℤ value) × (value ≤ℤ pos 1000000) }
+    ensures { result ≡ stored 0 (Some value) }
+{
+    (value + ZERO) as u64
 }
