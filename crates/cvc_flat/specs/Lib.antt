@@ -1,0 +1,9 @@
+pub mod Instances
+pub mod Nets
+pub mod Walk
+pub mod Params
+pub mod Places
+pub mod Flat
+pub mod FindNet
+pub mod Answers
+pub mod Held
