@@ -1,6 +1,6 @@
 -- Nets by their printed names. The first net of the list that is printed so is found. Where there is none, the text is split at each `/`: all pieces but the
 -- last are names of instances from the top on, and the last is a name there, whose net is found if it is in the list.
-use Rattle.std.specs.Prelude.{ℕ, suc, ◌==◌, List, [], ◌∷◌, Option, Some, None, find, if◌then◌else◌}
+use Rattle.std.specs.Prelude.{ℕ, ◌==◌, Bool, List, [], ◌∷◌, Option, Some, None, find, position}
 use Rattle.std.specs.List.{slice_split}
 use Rattle.std.specs.Option.{option_map, option_and_then, option_or}
 use Rattle.std.specs.Str.{bytes_eq}
@@ -13,16 +13,17 @@ printed_net net = printed net.within net.name
 
 -- the first net that is printed so
 abbrev pub number_printed : List Net → List ℕ → Option ℕ
-number_printed [] text = None
-number_printed (net ∷ nets) text = if bytes_eq text (printed_net net) then Some 0 else option_map suc (number_printed nets text)
+number_printed nets text = position (λ (net : Net). bytes_eq text (printed_net net)) nets
 
 -- the number of a net, if it is in the list
 abbrev pub number_among : List Net → Net → Option ℕ
-number_among [] net = None
-number_among (m ∷ ms) net = if same_net net m then Some 0 else option_map suc (number_among ms net)
+number_among nets net = position (same_net net) nets
+
+abbrev pub is_slash : ℕ → Bool
+is_slash c = c == 47
 
 abbrev pub pieces : List ℕ → List (List ℕ)
-pieces text = slice_split (λ c. c == 47) text
+pieces text = slice_split is_slash text
 
 -- the instance of these names, its own first
 abbrev pub path_named : FlatList → List (List ℕ) → Option Path

@@ -1,8 +1,8 @@
 -- The flat list of a netlist: its nets and its devices, in the order of the walk, or the first fault. The nets are the globals, the ports of the top, and
 -- the nets of the devices' pins, each where it first comes. What a flat list holds has no netlist behind it: a device has its parts, its pins by their nets'
 -- numbers and its resolved parameters, and of the instances their paths are kept, by which a name in any of them finds its net.
-use Rattle.std.specs.Prelude.{ℕ, suc, Bool, nat_le, nat_lt, List, [], ◌∷◌, ◌++◌, length, map, Option, Some, None, is_none, Result, if◌then◌else◌}
-use Rattle.std.specs.List.{list_any, flat_map, filter_map}
+use Rattle.std.specs.Prelude.{ℕ, suc, Bool, nat_le, nat_lt, List, [], ◌∷◌, ◌++◌, length, map, Option, Some, None, Result, if◌then◌else◌}
+use Rattle.std.specs.List.{list_any, flat_map, filter_map, position_or_len}
 use Rattle.std.specs.Option.{option_map, unwrap_or}
 use Rattle.cvc_base.specs.declared.cause.Cause.{Cause}
 use Rattle.cvc_base.specs.declared.cause.Cause.TheVariants.{TooDeep, TooManyInstances, TooManyDevices, TooManyNets, ParamLoop}
@@ -20,6 +20,7 @@ use Rattle.cvc_cdl.specs.Ending.{unless_fault}
 use Rattle.cvc_flat.specs.Instances.{Instance, cell_at, names_to}
 use Rattle.cvc_flat.specs.Nets.{Net, Path, same_net, top_net, path_of, global_names, net_in}
 use Rattle.cvc_flat.specs.Params.{params_in}
+use Rattle.cvc_flat.specs.Places.{has_loop}
 use Rattle.cvc_flat.specs.Walk.{Visit, walk}
 
 -- ## Nets, each once
@@ -115,7 +116,7 @@ abbrev pub device_cause : Limits → Netlist → List Visit → Instance → Dev
 device_cause l n earlier p d =
     if nat_le l.devices (length (devices_behind earlier)) then Some TooManyDevices
     else (if nat_lt l.nets (length (nets_once (nets_behind n earlier) (pins_of n p d))) then Some TooManyNets
-    else cause_if (is_none (params_in n p d.pairs)) ParamLoop)
+    else cause_if (has_loop n p d.pairs) ParamLoop)
 
 abbrev pub visit_fault_in : Limits → Netlist → List Visit → Instance → Item → Option Fault
 visit_fault_in l n earlier p (items.Device d) = option_map (fault_at d.line) (device_cause l n earlier p d)
@@ -156,8 +157,7 @@ pub record FlatList : Type 0 where
 
 -- the number of a net, or that of nets where it is not among them
 abbrev pub number_of_net : List Net → Net → ℕ
-number_of_net [] net = 0
-number_of_net (m ∷ ms) net = if same_net net m then 0 else suc (number_of_net ms net)
+number_of_net nets net = position_or_len (same_net net) nets
 
 abbrev pub net_id : List Net → Net → NetId
 net_id nets net = record { 0 = number_of_net nets net }

@@ -1,8 +1,7 @@
 -- What a flat list in memory shows: the flat list, and for each device the number of the list of parameters that it shares with others of its model.
-use Rattle.std.specs.Prelude.{◌≡◌, ℕ, ◌<◌, ◌≤◌, List, [], length, All, slice_index, slice_index_or}
-use Rattle.cvc_base.specs.declared.ids.NetId.{NetId}
+use Rattle.std.specs.Prelude.{◌≡◌, ℕ, ◌<◌, List, [], length, slice_index, slice_index_or}
 use Rattle.cvc_card.specs.declared.card.Letter.TheVariants.{M}
-use Rattle.cvc_card.specs.Card.{net_count}
+use Rattle.cvc_flat.specs.Instances.{printed}
 use Rattle.cvc_flat.specs.Nets.{Net, top_net}
 use Rattle.cvc_flat.specs.Flat.{FlatDevice, FlatList}
 
@@ -20,6 +19,9 @@ device f d = slice_index_or f.devices d no_device
 
 abbrev pub net : FlatList → ℕ → Net
 net f k = slice_index_or f.nets k (top_net [])
+
+abbrev pub printed_device : FlatDevice → List ℕ
+printed_device d = printed d.within d.name
 
 -- its group is a number below their count, and so is that of another device only where both have one model and the same parameters
 pub record IsGroup (h : Held) (d group : ℕ) : Type 0 where

@@ -1,8 +1,10 @@
--- The places that a text comes by as it is followed: a place is an instance or the main level, one of its lists and a name without regard to case.
+-- Loops of parameters. A text comes by places as it is followed: a place is an instance or the main level, one of its lists and a name without regard to case.
+-- There is a loop where a place comes twice, which shows within as many steps as there are pairs to pass, and one more.
 use Rattle.std.specs.Prelude.{ℕ, zero, suc, ◌==◌, Bool, false, ◌&&◌, ◌||◌, List, [], ◌∷◌, is_some, if◌then◌else◌}
 use Rattle.std.specs.List.{list_any}
 use Rattle.std.specs.Option.{option_map_or}
 use Rattle.std.specs.Str.{bytes_eq, str_to_ascii_lowercase}
+use Rattle.cvc_base.specs.declared.param.Pair.{Pair}
 use Rattle.cvc_cdl.specs.declared.netlist.Netlist.{Netlist}
 use Rattle.cvc_flat.specs.Instances.{Instance, cell_at, names_to, same_names}
 use Rattle.cvc_flat.specs.Params.{Scope, Inside, Main, Use, given_in, on_card, next, pairs_above}
@@ -34,6 +36,10 @@ abbrev pub has_place_twice : List Place → Bool
 has_place_twice [] = false
 has_place_twice (p ∷ ps) = list_any (same_place p) ps || has_place_twice ps
 
--- a place comes twice
+-- a place comes twice as the text is followed
 unfoldable pub comes_twice : Netlist → Instance → List ℕ → Bool
 comes_twice n p text = has_place_twice (places n (suc (pairs_above n p)) record { text = text; scope = Inside p })
+
+-- the value of one of these pairs is a loop
+abbrev pub has_loop : Netlist → Instance → List Pair → Bool
+has_loop n p pairs = list_any (λ (pair : Pair). comes_twice n p pair.value) pairs

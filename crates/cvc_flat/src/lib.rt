@@ -1,11 +1,13 @@
-//! The flat list of a netlist.
+//! The flat list of a netlist: its hierarchy resolved to nets, devices and their parameters.
 #![tactic(auto)]
 
-ghost use Rattle.std.specs.Prelude.{◌≡◌, Ok, Err, IfOk, length};
-ghost use Rattle.cvc_cdl.specs.WellFormed.{IsWellFormed};
-ghost use Rattle.cvc_flat.specs.Flat.{limits, flat_of};
-ghost use Rattle.cvc_flat.specs.FindNet.{find_net};
-ghost use Rattle.cvc_flat.specs.Places.{comes_twice};
-ghost use Rattle.cvc_flat.specs.Held.{IsGroup};
+mod find;
+mod flat;
+mod names;
+mod resolve;
+mod rows;
+mod walk;
+mod way;
 
-pub fn nothing() {}
+pub use flat::Flat;
+pub use walk::flatten;
