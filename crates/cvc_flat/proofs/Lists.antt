@@ -1,0 +1,108 @@
+-- What holds of each item of a list, and names by their places.
+use Rattle.std.proofs.Common.{◌≡◌, ℕ, zero, suc, ◌+◌, ◌<◌, ◌≤◌, ◌||◌, Bool, true, false, cond, not, List, [], ◌∷◌, ◌++◌, length, map, get_or, take, Option, Some, None, refl, sym, ap, subst, ◌∙◌, length-append, arith}
+use Rattle.std.specs.Prelude.{All, Vec, nat_lt, position, if◌then◌else◌}
+use Rattle.std.specs.List.{list_any, position_or_len}
+use Rattle.std.specs.Str.{bytes_eq}
+use Rattle.std.specs.Cmp.Lexicographic.{bytes_decides}
+use Rattle.std.specs.declared.alloc.Global.{Global}
+use Rattle.std.proofs.Math.Seq.{get_or-append_seam}
+use Rattle.std.proofs.lemmas.Bool.{lt-ltb}
+use Rattle.std.proofs.lemmas.List.Sums.{fails_before_first, passes_at_first, position_or_len_is}
+use Rattle.std.proofs.lemmas.Bool.Decides.{nat_tests}
+use Rattle.std.proofs.lemmas.List.{get_or-take, get_or_append_left, length-map, length-take-le, map-append}
+use Rattle.cvc_cdl.specs.Building.{is_among}
+use Rattle.cvc_flat.specs.Names.{items_of, place_of, with_name}
+use Rattle.cvc_flat.specs.Tables.{text}
+
+pub all_head : {X : Type 0} (P : X → Type 0) (x : X) (xs : List X) → All P (x ∷ xs) → P x
+all_head P x xs h = h 0 x (omega arith)
+
+pub all_tail : {X : Type 0} (P : X → Type 0) (x : X) (xs : List X) → All P (x ∷ xs) → All P xs
+all_tail P x xs h = λ k d b. h (suc k) d (omega arith)
+
+all_cons_at : {X : Type 0} (P : X → Type 0) (x : X) (xs : List X) → P x → All P xs → (k : ℕ) (d : X) → k < length (x ∷ xs) → P (get_or (x ∷ xs) k d)
+all_cons_at P x xs p h zero d b = p
+all_cons_at P x xs p h (suc k) d b = h k d (omega arith)
+
+pub all_cons : {X : Type 0} (P : X → Type 0) (x : X) (xs : List X) → P x → All P xs → All P (x ∷ xs)
+all_cons P x xs p h = λ k d b. all_cons_at P x xs p h k d b
+
+pub all_one : {X : Type 0} (P : X → Type 0) (x : X) → P x → All P (x ∷ [])
+all_one P x p = all_cons P x [] p (λ k d b. absurd (omega arith))
+
+pub all_last : {X : Type 0} (P : X → Type 0) (xs ys : List X) (x : X) → xs ≡ ys ++ x ∷ [] → All P xs → P x
+all_last {X} P xs ys x e h =
+    subst P (ap (λ (l : List X). get_or l (length ys) x) e ∙ get_or-append_seam ys x [] x) (h (length ys) x (omega (arith, ap length e, length-append ys (x ∷ []))))
+
+pub all_front : {X : Type 0} (P : X → Type 0) (xs ys : List X) (x : X) → xs ≡ ys ++ x ∷ [] → All P xs → All P ys
+all_front {X} P xs ys x e h = λ k d b.
+    subst P (ap (λ (l : List X). get_or l k d) e ∙ get_or_append_left ys (x ∷ []) d k b) (h k d (omega (arith, ap length e, length-append ys (x ∷ []))))
+
+-- ## Places
+
+pub first_map : {A B : Type 0} (p : B → Bool) (f : A → B) (xs : List A) → position_or_len p (map f xs) ≡ position_or_len (λ x. p (f x)) xs
+first_map p f [] = refl
+first_map p f (x ∷ xs) = rw (first_map p f xs) refl
+
+pub place_map : {A B : Type 0} (p : B → Bool) (f : A → B) (xs : List A) → position p (map f xs) ≡ position (λ x. p (f x)) xs
+place_map p f xs = λ i. cond (nat_lt (first_map p f xs i) (length-map xs f i)) (Some (first_map p f xs i)) None
+
+pub any_map : {A B : Type 0} (p : B → Bool) (f : A → B) (xs : List A) → list_any p (map f xs) ≡ list_any (λ x. p (f x)) xs
+any_map p f [] = refl
+any_map p f (x ∷ xs) = ap (λ b. p (f x) || b) (any_map p f xs)
+
+pub kept_name : (keys : List (Vec ℕ Global)) (names : List (List ℕ)) (name : List ℕ) → map items_of keys ≡ names → list_any (λ (k : Vec ℕ Global). bytes_eq name k.items) keys ≡ true → names ≡ with_name names name
+kept_name keys names name is has =
+    let among : is_among names name ≡ true = ap (λ ns. is_among ns name) (sym is) ∙ any_map (bytes_eq name) items_of keys ∙ has in
+    sym (ap (λ (b : Bool). if b then names else names ++ name ∷ []) among)
+
+insert_is : (keys : List (Vec ℕ Global)) (copy : Vec ℕ Global) (b : Bool) → map items_of (if b then keys else keys ++ copy ∷ []) ≡ (if b then map items_of keys else map items_of keys ++ copy.items ∷ [])
+insert_is keys copy true = refl
+insert_is keys copy false = map-append items_of keys (copy ∷ [])
+
+pub inserted_name : (keys more : List (Vec ℕ Global)) (names : List (List ℕ)) (copy : Vec ℕ Global) (name : List ℕ) → map items_of keys ≡ names → copy.items ≡ name
+    → more ≡ (if list_any (λ (k : Vec ℕ Global). bytes_eq copy.items k.items) keys then keys else keys ++ copy ∷ []) → map items_of more ≡ with_name names name
+inserted_name keys more names copy name is same e =
+    ap (map items_of) e
+    ∙ insert_is keys copy (list_any (λ (k : Vec ℕ Global). bytes_eq copy.items k.items) keys)
+    ∙ ap (λ (b : Bool). if b then map items_of keys else map items_of keys ++ copy.items ∷ []) (sym (any_map (bytes_eq copy.items) items_of keys))
+    ∙ ap (λ (ns : List (List ℕ)). with_name ns copy.items) is
+    ∙ ap (with_name names) same
+
+pub text_at_place : (names : List (List ℕ)) (name : List ℕ) (k : ℕ) → place_of names name ≡ Some k → text names k ≡ name
+text_at_place names name k e = by (nat_lt (position_or_len (bytes_eq name) names) (length names)) refl e
+  where
+    by : (b : Bool) → nat_lt (position_or_len (bytes_eq name) names) (length names) ≡ b → cond b (Some (position_or_len (bytes_eq name) names)) None ≡ Some k → text names k ≡ name
+    by true below is =
+        let at : position_or_len (bytes_eq name) names ≡ k = cc in
+        ap (text names) (sym at) ∙ sym ((bytes_decides name (get_or names (position_or_len (bytes_eq name) names) [])).0 (passes_at_first (bytes_eq name) names [] (grind (arith, nat_tests))))
+    by false below is = cc
+
+pub none_first : {A : Type 0} (p : A → Bool) (xs : List A) → position p xs ≡ None → length xs ≤ position_or_len p xs
+none_first p xs e = by (nat_lt (position_or_len p xs) (length xs)) refl e
+  where
+    by : (b : Bool) → nat_lt (position_or_len p xs) (length xs) ≡ b → cond b (Some (position_or_len p xs)) None ≡ None → length xs ≤ position_or_len p xs
+    by true below is = cc
+    by false below is = grind (arith, nat_tests)
+
+-- the first that passes, where none before it does
+pub found_here : {A : Type 0} (p : A → Bool) (xs : List A) (k : ℕ) (d : A) → k < length xs → position p (take k xs) ≡ None → p (get_or xs k d) ≡ true → position p xs ≡ Some k
+found_here p xs k d inside none here =
+    let far : length (take k xs) ≤ position_or_len p (take k xs) = none_first p (take k xs) none in
+    let long : length (take k xs) ≡ k = length-take-le k xs (omega arith) in
+    let before : (j : ℕ) → j < k → p (get_or xs j d) ≡ false = λ j h. ap p (sym (get_or-take k xs j d h)) ∙ fails_before_first p (take k xs) j d (omega (arith, far, long, h)) in
+    let at : position_or_len p xs ≡ k = position_or_len_is p xs k d (omega arith) before (λ _. here) in
+    ap (λ n. cond (nat_lt n (length xs)) (Some n) None) at ∙ ap (λ (b : Bool). cond b (Some k) None) (lt-ltb k (length xs) inside)
+
+pub empty_of : (xs : List ℕ) → (0 < length xs → ⊥) → xs ≡ []
+empty_of [] h = refl
+empty_of (x ∷ xs) h = absurd (h (omega arith))
+
+pub place_below : (names : List (List ℕ)) (name : List ℕ) (k : ℕ) → place_of names name ≡ Some k → k < length names
+place_below names name k e = by (nat_lt (position_or_len (bytes_eq name) names) (length names)) refl e
+  where
+    by : (b : Bool) → nat_lt (position_or_len (bytes_eq name) names) (length names) ≡ b → cond b (Some (position_or_len (bytes_eq name) names)) None ≡ Some k → k < length names
+    by true below is =
+        let at : position_or_len (bytes_eq name) names ≡ k = cc in
+        grind (arith, nat_tests)
+    by false below is = cc

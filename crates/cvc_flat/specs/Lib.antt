@@ -1,0 +1,13 @@
+pub mod Instances
+pub mod Nets
+pub mod Walk
+pub mod Left
+pub mod Params
+pub mod Places
+pub mod Flat
+pub mod FindNet
+pub mod Answers
+pub mod Held
+pub mod Names
+pub mod Tables
+pub mod Resolving
