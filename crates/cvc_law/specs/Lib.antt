@@ -7,5 +7,6 @@ pub mod Reach
 pub mod ReachLeast
 pub mod ReachWord
 pub mod Rules
+pub mod Bound
 pub mod Fans
 pub mod Kept
