@@ -7,5 +7,5 @@ mod cards;
 mod lines;
 #[cfg(test)]
 mod netlists;
+#[cfg(test)]
 mod rules;
-mod tests;
