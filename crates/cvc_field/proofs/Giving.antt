@@ -143,9 +143,6 @@ skips_declared c d found k net spare a at declared t = (t.0, t.1, settled_next c
 pub skips_nothing : (c : Network) (d : DevId) (found : Reads) (k : ℕ) (spare : Bool) (a : Actor) → k < 4 → given c (device_at c d.0) k found ≡ None → IsGiving c d found k None spare a → IsGiving c d found (k + 1) None spare a
 skips_nothing c d found k spare a lt none t = (t.0, t.1, settled_next c d found k spare t.0 t.2 (inr (inl (offers_nothing c t.0 t.2.ready k lt (given_same c d found k spare t.0 t.2 ∙ none)))))
 
-pub given_here : (c : Network) (d : DevId) (k : ℕ) (reads : Reads) (o : Option ℤ) → d.0 < devices c → ((dev : Device) → slice_get c.devices d.0 ≡ Some dev → o ≡ given c dev k reads) → given c (device_at c d.0) k reads ≡ o
-given_here c d k reads o lt each = sym (each (device_at c d.0) (device_at_get c d.0 lt))
-
 pub may_give : (c : Network) (d : DevId) (found : Reads) (k net : ℕ) (v : ℤ) (spare : Bool) (a : Actor) → net ≡ target (device_at c d.0) k → is_declared c net ≡ false → given c (device_at c d.0) k found ≡ Some v → IsGiving c d found k None spare a → MayGive c d k v a
 may_give c d found k net v spare a at free is t = (t.0, t.1, t.2.ready, t.2.loaded, t.2.device, t.2.owes, t.2.later k (omega arith), ap (is_declared c) (sym at) ∙ free, ap (given c (device_at c d.0) k) t.2.reads ∙ is)
 

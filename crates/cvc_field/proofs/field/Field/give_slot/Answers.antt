@@ -6,7 +6,7 @@ use Rattle.cvc_law.specs.Conduction.{given}
 use Rattle.cvc_law.specs.Reach.{device_at}
 use Rattle.cvc_field.specs.Runs.{IsGiving, MayGive, debt_from}
 use Rattle.cvc_field.proofs.Going.{goes_nowhere, notes_nothing, notes_on}
-use Rattle.cvc_field.proofs.Giving.{skips_declared, skips_nothing, given_here, given_million, value_back, may_give, gave_slot, marks_fan, fan_marked}
+use Rattle.cvc_field.proofs.Giving.{skips_declared, skips_nothing, given_million, value_back, may_give, gave_slot, marks_fan, fan_marked}
 use Rattle.cvc_field.proofs.field.Field.give_slot.Goals as goal
 use Rattle.cvc_field.proofs.field.Field.give_slot.Goals.{After-widen}
 
@@ -19,14 +19,14 @@ returns-then-is_some-clause-goes c = notes_nothing c.args.seat.now.me.0 c.args.s
 
 pub returns-in_default-clause-giving : goal.returns-in_default-clause-giving
 returns-in_default-clause-giving c = let n = c.args.self.now.circuit.now in skips_nothing n c.args.d c.args.reads.now c.args.slot c.args.spare c.args.seat.now.me.0.actor c.requires.slot
-    (given_here n c.args.d c.args.slot c.args.reads.now c.gives.result c.requires.device c.gives.ensures.device ∙ c.in_default.is) c.requires.giving
+    (sym c.gives.ensures ∙ c.in_default.is) c.requires.giving
 
 pub returns-in_default-clause-goes : goal.returns-in_default-clause-goes
 returns-in_default-clause-goes c = notes_nothing c.args.seat.now.me.0 c.args.seat.now.me.0 c.args.tray.now.items c.requires.room (goes_nowhere c.args.seat.now.me.0)
 
 pub widen-requires-clause-may : goal.widen-requires-clause-may
 widen-requires-clause-may c = let n = c.args.self.now.circuit.now in
-    let is : given n (device_at n c.args.d.0) c.args.slot c.args.reads.now ≡ Some c.in-Some.value = given_here n c.args.d c.args.slot c.args.reads.now c.gives.result c.requires.device c.gives.ensures.device ∙ c.in-Some.is in
+    let is : given n (device_at n c.args.d.0) c.args.slot c.args.reads.now ≡ Some c.in-Some.value = sym c.gives.ensures ∙ c.in-Some.is in
     subst (λ (z : ℤ). MayGive n c.args.d c.args.slot z c.args.seat.now.me.0.actor) (sym (value_back c.in-Some.value (given_million n c.in_million.ensures (device_at n c.args.d.0) c.args.slot c.args.reads.now c.in-Some.value is)))
     (may_give n c.args.d c.args.reads.now c.args.slot c.target-net.result.0 c.in-Some.value c.args.spare c.args.seat.now.me.0.actor c.target-net.ensures.net (ap (λ (o : Option Fixed). is_some o) (sym c.fixed.ensures) ∙ (sym c.is_some.ensures ∙ c.if-is_some.false)) is c.requires.giving)
 
