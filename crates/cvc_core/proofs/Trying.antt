@@ -1,5 +1,5 @@
 -- A step that is tried on a store: what its parts need, and that it did what it is to do.
-use Rattle.std.proofs.Common.{◌≡◌, ℕ, ◌<◌, Bool, true, false, cond, nat_lt, max, List, length, set, get_or, Option, Some, None, arith, ap, refl, sym, subst, ◌∙◌, true≢false}
+use Rattle.std.proofs.Common.{◌≡◌, ℕ, ◌<◌, true, false, cond, nat_lt, max, List, length, set, get_or, Option, Some, None, arith, ap, refl, sym, subst, ◌∙◌, true≢false}
 use Rattle.std.specs.Prelude.{slice_index, slice_set}
 use Rattle.std.proofs.lemmas.List.{set-get_or}
 use Rattle.std.proofs.lemmas.Grind.{get_or_default_zero}

@@ -44,6 +44,13 @@ fn is_threshold(kind: Kind, threshold: Mv) -> bool
     }
 }
 
+/// Whether the corner that conducts most has no greater threshold than the other.
+fn has_corners(volts: &Volts) -> bool
+    ensures { IsTrue result → volts.now.threshold ≤ℤ volts.now.weak }
+{
+    volts.threshold.get() <= volts.weak.get()
+}
+
 /// Whether this is a device of a circuit of this many nets.
 fn is_device(net_count: usize, device: &Device) -> bool
     ensures { IsTrue result → IsDevice net_count device.now }
@@ -58,7 +65,7 @@ fn is_device(net_count: usize, device: &Device) -> bool
     if !is_threshold(device.kind, device.volts.threshold) {
         return false;
     }
-    if device.volts.threshold.get() > device.volts.weak.get() {
+    if !has_corners(&device.volts) {
         return false;
     }
     if device.volts.drop.get() < 0 {

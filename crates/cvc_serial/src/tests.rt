@@ -1,5 +1,5 @@
 //! Circuits whose least families are known from outside.
-ghost use Rattle.std.specs.Prelude.{◌≡◌, IsTrue, length};
+ghost use Rattle.std.specs.Prelude.{◌≡◌, ◌≤ℤ◌, IsTrue, length};
 ghost use Rattle.cvc_law.specs.Network.{pins_of, IsDevice, IsCircuit};
 ghost use Rattle.cvc_serial.specs.TestCircuits.{AreOnNets, AreDevices, AreOrdered};
 
@@ -98,6 +98,13 @@ fn are_on_nets(net_count: usize, pins: &[NetId]) -> bool
     true
 }
 
+/// Whether the corner that conducts most has no greater threshold than the other.
+fn has_corners(volts: &Volts) -> bool
+    ensures { IsTrue result → volts.now.threshold ≤ℤ volts.now.weak }
+{
+    volts.threshold.get() <= volts.weak.get()
+}
+
 /// Whether the device may stand in a circuit of this many nets.
 fn is_device(net_count: usize, device: &Device) -> bool
     ensures { IsTrue result → IsDevice net_count device.now }
@@ -114,7 +121,7 @@ fn is_device(net_count: usize, device: &Device) -> bool
     if device.volts.junction.get() < 0 {
         return false;
     }
-    if device.volts.threshold.get() > device.volts.weak.get() {
+    if !has_corners(&device.volts) {
         return false;
     }
     device.volts.threshold.get() >= 0
