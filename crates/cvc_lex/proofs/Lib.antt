@@ -13,3 +13,4 @@ pub mod Tokened
 pub mod Counted
 pub mod Judging
 pub mod JudgedFiles
+pub mod JudgedRows

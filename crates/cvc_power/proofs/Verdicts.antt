@@ -1,13 +1,14 @@
 -- Verdicts of lines in a row: rows so far, and an answer for the lines that are left.
-use Rattle.std.proofs.Common.{◌≡◌, ℕ, ◌+◌, ◌<◌, Bool, true, false, not, ◌||◌, List, [], ◌∷◌, ◌++◌, map, length, Vec, Result, Ok, Err, refl, sym, ap, subst, ◌∙◌, append_assoc, append-nil, get_or, arith, true≢false}
+use Rattle.std.proofs.Common.{◌≡◌, ℕ, ℤ, ◌≤ℤ◌, int_lt, All, cond, codes, ◌+◌, ◌<◌, ◌≤◌, Bool, true, false, not, ◌||◌, List, [], ◌∷◌, ◌++◌, map, length, Vec, Result, Ok, Err, refl, sym, ap, subst, ◌∙◌, append_assoc, append-nil, get_or, arith, true≢false}
 use Rattle.std.proofs.lemmas.List.{map-append}
 use Rattle.std.specs.Bool.{OnTrue}
 use Rattle.std.specs.declared.alloc.Global.{Global}
 use Rattle.std.specs.List.{list_any}
-use Rattle.std.specs.Str.{bytes_eq}
+use Rattle.std.specs.Str.{bytes_eq, str_eq_ignore_ascii_case}
+use Rattle.std.proofs.lemmas.Int.{ints}
 use Rattle.cvc_base.specs.declared.fault.Fault.{Fault}
 use Rattle.cvc_base.specs.declared.cause.Cause.{Cause}
-use Rattle.cvc_base.specs.declared.cause.Cause.TheVariants.{TwiceRow}
+use Rattle.cvc_base.specs.declared.cause.Cause.TheVariants.{BadRow, MinAboveMax, TwiceRow}
 use Rattle.cvc_base.specs.declared.fault.FileKind.TheVariants.{Power}
 use Rattle.cvc_base.specs.declared.fault.Refusal.{Refusal}
 use Rattle.cvc_base.specs.declared.fault.Refusal.TheVariants.{At, NoMemory}
@@ -15,40 +16,11 @@ use Rattle.cvc_base.specs.declared.line.Line.{Line}
 use Rattle.cvc_base.specs.declared.line.Token.{Token}
 use Rattle.cvc_base.specs.Faults.{fault_on}
 use Rattle.cvc_power.specs.declared.row.Span.{Span}
-use Rattle.cvc_power.specs.Rows.{text_of, span_of}
+use Rattle.cvc_lex.proofs.JudgedRows.{judged_rows}
+use Rattle.cvc_power.specs.Rows.{text_of, voltage_of, exactly, between, span_of}
 use Rattle.cvc_power.specs.declared.row.PowerRow.{PowerRow}
-use Rattle.cvc_power.specs.Power.{verdict, verdicts, rows_or_fault, in_front, first_of, texts_of, name_of, row_with, row_of, is_taken, unless_taken, items_of, AtFault}
-
--- rows in front of an answer
-abbrev pub behind : List PowerRow → Result (List PowerRow) Fault → Result (List PowerRow) Fault
-behind rows (Ok more) = Ok (rows ++ more)
-behind rows (Err fault) = Err fault
-
-pub behind-none : (r : Result (List PowerRow) Fault) → behind [] r ≡ r
-behind-none (Ok rows) = refl
-behind-none (Err fault) = refl
-
-pub behind-none_left : (rows : List PowerRow) (earlier : List Line) → behind rows (rows_or_fault (verdicts earlier [])) ≡ Ok rows
-unfolding verdicts rows_or_fault
-behind-none_left rows earlier = simp append-nil
-
--- a line with a row: it goes behind the others
-pub behind-row : (rows : List PowerRow) (earlier : List Line) (line : Line) (lines : List Line) (row : PowerRow)
-    → verdict earlier line ≡ Ok row
-    → behind rows (rows_or_fault (verdicts earlier (line ∷ lines))) ≡ behind (rows ++ row ∷ []) (rows_or_fault (verdicts (earlier ++ line ∷ []) lines))
-unfolding verdicts rows_or_fault
-behind-row rows earlier line lines row e = ap (λ v. behind rows (in_front v (rows_or_fault (verdicts (earlier ++ line ∷ []) lines)))) e ∙ both (rows_or_fault (verdicts (earlier ++ line ∷ []) lines))
-  where
-    both : (r : Result (List PowerRow) Fault) → behind rows (in_front (Ok row) r) ≡ behind (rows ++ row ∷ []) r
-    both (Ok more) = ap Ok (sym (append_assoc rows (row ∷ []) more))
-    both (Err fault) = refl
-
--- a line with a fault: that is the answer
-pub behind-fault : (rows : List PowerRow) (earlier : List Line) (line : Line) (lines : List Line) (fault : Fault)
-    → verdict earlier line ≡ Err fault
-    → behind rows (rows_or_fault (verdicts earlier (line ∷ lines))) ≡ Err fault
-unfolding verdicts rows_or_fault
-behind-fault rows earlier line lines fault e = ap (λ v. behind rows (in_front v (rows_or_fault (verdicts (earlier ++ line ∷ []) lines)))) e
+use Rattle.cvc_base.specs.Answers.{IfAt}
+use Rattle.cvc_power.specs.Power.{verdict, first_of, texts_of, name_of, row_with, row_of, is_taken, unless_taken, power_of, items_of, IsOrdered}
 
 -- what was read of a line is its row
 pub is_row : (line : Line) (span : Span) (first : Token) (name : List ℕ)
@@ -108,34 +80,59 @@ pub when : (b : Bool) (P : Type 0) → b ≡ true → OnTrue b P → P
 when true P e h = h
 when false P e h = absurd (true≢false (sym e))
 
-pub AtFault-weaker : (r : Refusal) (P Q : Fault → Type 0) → ((fault : Fault) → P fault → Q fault) → AtFault r P → AtFault r Q
-AtFault-weaker (At fault) P Q f h = f fault h
-AtFault-weaker NoMemory P Q f h = tt
+pub at-weaker : (r : Refusal) (P Q : Fault → Type 0) → ((fault : Fault) → P fault → Q fault) → IfAt {A = Unit {0}} (Err r) P → IfAt {A = Unit {0}} (Err r) Q
+at-weaker (At fault) P Q f h = f fault h
+at-weaker NoMemory P Q f h = tt
 
--- one line further in the walk
-module _ (answer : Result (List PowerRow) Fault) (rows : List PowerRow) (earlier waiting : List Line)
-    (rest : answer ≡ behind rows (rows_or_fault (verdicts earlier waiting))) where
-  pub at_end : waiting ≡ [] → answer ≡ Ok rows
-  at_end e = rest ∙ ap (λ w. behind rows (rows_or_fault (verdicts earlier w))) e ∙ behind-none_left rows earlier
+-- ## What binding asks of the rows
 
-  module _ (line : Line) (lines : List Line) (taken : waiting ≡ line ∷ lines) where
-    on : answer ≡ behind rows (rows_or_fault (verdicts earlier (line ∷ lines)))
-    on = rest ∙ ap (λ w. behind rows (rows_or_fault (verdicts earlier w))) taken
+ordered_by : (low high : ℤ) → int_lt high low ≡ false → low ≤ℤ high
+ordered_by low high e = omega (arith, ints)
 
-    pub at_fault : (fault : Fault) → verdict earlier line ≡ Err fault → answer ≡ Err fault
-    at_fault fault e = on ∙ behind-fault rows earlier line lines fault e
+exactly_ordered : (a : Result ℤ Cause) (span : Span) → exactly a ≡ Ok span → span.low ≤ℤ span.high
+exactly_ordered (Ok v) span e = let same : record { low = v; high = v } ≡ span = cc in let P : Span → Type 0 = λ s. s.low ≤ℤ s.high in subst P same (omega (arith, ints))
+exactly_ordered (Err cause) span e = cc
 
-    pub at_row : (row : PowerRow) → verdict earlier line ≡ Ok row → (more : List PowerRow) → more ≡ rows ++ row ∷ []
-        → answer ≡ behind more (rows_or_fault (verdicts (earlier ++ line ∷ []) lines))
-    at_row row e more f = on ∙ behind-row rows earlier line lines row e ∙ ap (λ rs. behind rs (rows_or_fault (verdicts (earlier ++ line ∷ []) lines))) (sym f)
-
--- a fault stays the first, whatever lines follow
-pub fault-append : (earlier lines more : List Line) (fault : Fault) → rows_or_fault (verdicts earlier lines) ≡ Err fault → rows_or_fault (verdicts earlier (lines ++ more)) ≡ Err fault
-unfolding verdicts rows_or_fault
-fault-append earlier [] more fault e = cc
-fault-append earlier (line ∷ lines) more fault e = by (verdict earlier line) (rows_or_fault (verdicts (earlier ++ line ∷ []) lines)) (rows_or_fault (verdicts (earlier ++ line ∷ []) (lines ++ more))) (fault-append (earlier ++ line ∷ []) lines more) e
+between_ordered : (a b : Result ℤ Cause) (span : Span) → between a b ≡ Ok span → span.low ≤ℤ span.high
+between_ordered (Ok low) (Ok high) span e = by (int_lt high low) refl e
   where
-    by : (v : Result PowerRow Fault) (a b : Result (List PowerRow) Fault) → ((f : Fault) → a ≡ Err f → b ≡ Err f) → in_front v a ≡ Err fault → in_front v b ≡ Err fault
-    by (Err g) a b h e = e
-    by (Ok r) (Err g) b h e = ap (in_front (Ok r)) (h g refl) ∙ e
-    by (Ok r) (Ok a) b h e = cc
+    by : (t : Bool) → int_lt high low ≡ t → cond t (Err MinAboveMax) (Ok (record { low = low; high = high })) ≡ Ok span → span.low ≤ℤ span.high
+    by true h e = cc
+    by false h e = let same : record { low = low; high = high } ≡ span = cc in let P : Span → Type 0 = λ s. s.low ≤ℤ s.high in subst P same (ordered_by low high h)
+between_ordered (Ok low) (Err cause) span e = cc
+between_ordered (Err cause) b span e = cc
+
+span_ordered : (texts : List (List ℕ)) (span : Span) → span_of texts ≡ Ok span → span.low ≤ℤ span.high
+unfolding span_of
+span_ordered [] span e = cc
+span_ordered (a ∷ []) span e = cc
+span_ordered (a ∷ b ∷ []) span e = cc
+span_ordered (a ∷ word ∷ only ∷ []) span e = by (str_eq_ignore_ascii_case word (codes "power")) e
+  where
+    by : (t : Bool) → cond t (exactly (voltage_of only)) (Err BadRow) ≡ Ok span → span.low ≤ℤ span.high
+    by true e = exactly_ordered (voltage_of only) span e
+    by false e = cc
+span_ordered (a ∷ word ∷ min ∷ max ∷ []) span e = by (str_eq_ignore_ascii_case word (codes "input")) e
+  where
+    by : (t : Bool) → cond t (between (voltage_of min) (voltage_of max)) (Err BadRow) ≡ Ok span → span.low ≤ℤ span.high
+    by true e = between_ordered (voltage_of min) (voltage_of max) span e
+    by false e = cc
+span_ordered (a ∷ b ∷ c ∷ d ∷ f ∷ texts) span e = cc
+
+row_ordered : (line : Line) (row : PowerRow) → row_of line ≡ Ok row → IsOrdered row
+row_ordered line row e = by (span_of (texts_of line)) refl e
+  where
+    by : (r : Result Span Cause) → span_of (texts_of line) ≡ r → row_with line r ≡ Ok row → IsOrdered row
+    by (Ok span) h e = let same : record { name = name_of line; low = span.low; high = span.high; line = line.first } ≡ row = cc in subst IsOrdered same (span_ordered (texts_of line) span h)
+    by (Err cause) h e = cc
+
+verdict_ordered : (earlier : List Line) (line : Line) (row : PowerRow) → verdict earlier line ≡ Ok row → IsOrdered row
+verdict_ordered earlier line row e = by (row_of line) refl (is_taken earlier line) e
+  where
+    by : (r : Result PowerRow Fault) → row_of line ≡ r → (taken : Bool) → unless_taken taken line r ≡ Ok row → IsOrdered row
+    by (Ok x) h true e = cc
+    by (Ok x) h false e = let same : x ≡ row = cc in subst IsOrdered same (row_ordered line x h)
+    by (Err fault) h taken e = cc
+
+pub fine_rows : (bytes : List ℕ) (rows : List PowerRow) → power_of bytes ≡ Ok rows → All IsOrdered rows × (length rows ≤ 16777216)
+fine_rows bytes rows e = judged_rows verdict IsOrdered verdict_ordered Power bytes rows e

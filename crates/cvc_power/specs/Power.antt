@@ -1,7 +1,7 @@
 -- The declared rows of a power file, or its first fault. Each logical line has a verdict: its row, or its first fault, where TwiceRow comes last and
 -- stands where an earlier line has the same name, byte by byte. A file has its rows where no line has a fault. Else its first fault is by line, and on one
 -- line a lexical fault goes first: so a row's fault is the first exactly where its line ends before the line of the first lexical fault.
-use Rattle.std.specs.Prelude.{ℕ, Bool, List, [], ◌∷◌, ◌++◌, map, Option, Some, None, Result, Ok, Err, Vec, if◌then◌else◌}
+use Rattle.std.specs.Prelude.{ℕ, Bool, List, [], ◌∷◌, map, Result, Ok, Err, Vec, ◌≤ℤ◌, if◌then◌else◌}
 use Rattle.std.specs.List.{list_any}
 use Rattle.std.specs.Str.{bytes_eq}
 use Rattle.std.specs.declared.alloc.Global.{Global}
@@ -9,11 +9,9 @@ use Rattle.cvc_base.specs.declared.cause.Cause.{Cause}
 use Rattle.cvc_base.specs.declared.cause.Cause.TheVariants.{TwiceRow}
 use Rattle.cvc_base.specs.declared.fault.Fault.{Fault}
 use Rattle.cvc_base.specs.declared.fault.FileKind.TheVariants.{Power}
-use Rattle.cvc_base.specs.declared.fault.Refusal.{Refusal}
-use Rattle.cvc_base.specs.declared.fault.Refusal.TheVariants.{At, NoMemory}
 use Rattle.cvc_base.specs.declared.line.Line.{Line}
 use Rattle.cvc_base.specs.Faults.{fault_on}
-use Rattle.cvc_lex.specs.Lines.{lexical, closed_at_end}
+use Rattle.cvc_lex.specs.Judged.{judged}
 use Rattle.cvc_power.specs.declared.row.PowerRow.{PowerRow}
 use Rattle.cvc_power.specs.declared.row.Span.{Span}
 use Rattle.cvc_power.specs.Rows.{text_of, span_of}
@@ -49,39 +47,13 @@ unless_taken taken line (Err fault) = Err fault
 abbrev pub verdict : List Line → Line → Result PowerRow Fault
 verdict earlier line = unless_taken (is_taken earlier line) line (row_of line)
 
--- the verdicts on lines that come after the earlier ones
-unfoldable pub verdicts : List Line → List Line → List (Result PowerRow Fault)
-verdicts earlier [] = []
-verdicts earlier (line ∷ lines) = verdict earlier line ∷ verdicts (earlier ++ line ∷ []) lines
-
-abbrev pub in_front : Result PowerRow Fault → Result (List PowerRow) Fault → Result (List PowerRow) Fault
-in_front (Err fault) later = Err fault
-in_front (Ok row) (Err fault) = Err fault
-in_front (Ok row) (Ok rows) = Ok (row ∷ rows)
-
--- the first fault among the verdicts, else all rows
-unfoldable pub rows_or_fault : List (Result PowerRow Fault) → Result (List PowerRow) Fault
-rows_or_fault [] = Ok []
-rows_or_fault (r ∷ rs) = in_front r (rows_or_fault rs)
-
--- a lexical fault comes after the faults of the lines before its own
-abbrev pub then_lexical : Option Fault → Result (List PowerRow) Fault → Result (List PowerRow) Fault
-then_lexical None answer = answer
-then_lexical (Some fault) (Ok rows) = Err fault
-then_lexical (Some fault) (Err first) = Err first
-
 -- the rows of a whole file, or its first fault. Of the lines only those are judged that close before the line of a lexical fault.
-unfoldable pub power_of : List ℕ → Result (List PowerRow) Fault
-power_of bytes = then_lexical (lexical Power bytes) (rows_or_fault (verdicts [] (closed_at_end Power bytes)))
+abbrev pub power_of : List ℕ → Result (List PowerRow) Fault
+power_of bytes = judged Power verdict bytes
 
--- a fact on the fault of a refusal, and of an answer; want of memory says nothing
-abbrev pub AtFault : Refusal → (Fault → Type 0) → Type 0
-AtFault (At fault) P = P fault
-AtFault NoMemory P = Unit {0}
-
-abbrev pub IfAt : {A : Type 0} → Result A Refusal → (Fault → Type 0) → Type 0
-IfAt (Ok x) P = Unit {0}
-IfAt (Err refusal) P = AtFault refusal P
+-- what a row declares is a span
+abbrev pub IsOrdered : PowerRow → Type 0
+IsOrdered row = row.low ≤ℤ row.high
 
 abbrev pub items_of : Vec ℕ Global → List ℕ
 items_of v = v.items

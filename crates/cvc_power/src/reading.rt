@@ -1,30 +1,20 @@
 //! Whole power files.
-ghost use Rattle.std.specs.Prelude.{◌≡◌, [], ◌∷◌, ◌++◌, Ok, Err, IfOk, map, not};
+ghost use Rattle.std.specs.Prelude.{◌≡◌, ◌<◌, ◌^◌, [], ◌∷◌, ◌++◌, All, Ok, Err, IfOk, length, map, not};
 ghost use Rattle.std.specs.Bool.{OnTrue};
 ghost use Rattle.std.specs.List.{list_any};
 ghost use Rattle.std.specs.Str.{bytes_eq};
-ghost use Rattle.cvc_power.specs.Power.{IfAt, items_of, power_of, row_of, rows_or_fault, verdicts};
+ghost use Rattle.cvc_base.specs.Answers.{IfAt};
+ghost use Rattle.cvc_lex.specs.Judged.{said};
+ghost use Rattle.cvc_power.specs.Power.{IsOrdered, items_of, power_of, row_of, verdict};
 
 use crate::row::{PowerRow, span_of};
-use cvc_base::{Cause, Fault, FileKind, ItemList, Line, NoMemory, Place, Refusal, Text};
+use cvc_base::{Cause, Fault, FileKind, ItemList, Line, NoMemory, Refusal, Text};
 use cvc_lex::Lexer;
 use indexmap::IndexSet;
 use std::alloc::Global;
 
 /// The rows of a power file, in order. No two have one name.
 pub type Power = ItemList<PowerRow>;
-
-fn fault_at(line: u32, cause: Cause) -> Refusal
-    ensures { result ≡ Refusal.At (record { place = record { file = FileKind.Power; line = line }; cause = cause }) }
-{
-    Refusal::At(Fault {
-        place: Place {
-            file: FileKind::Power,
-            line,
-        },
-        cause,
-    })
-}
 
 // The row of a line, by itself.
 fn read_row(alloc: Global, line: &Line) -> Result<PowerRow, Refusal>
@@ -33,11 +23,9 @@ fn read_row(alloc: Global, line: &Line) -> Result<PowerRow, Refusal>
 {
     let span = match span_of(line.tokens.as_slice()) {
         Ok(span) => span,
-        Err(cause) => return Err(fault_at(line.first, cause)),
+        Err(cause) => return Err(Refusal::At(Fault::at(FileKind::Power, line.first, cause))),
     };
-    let Ok(name) = Text::of(alloc, line.tokens.get(0).text.bytes()) else {
-        return Err(Refusal::NoMemory);
-    };
+    let name = Text::of(alloc, line.tokens.get(0).text.bytes())?;
     Ok(PowerRow {
         name,
         low: span.low,
@@ -67,31 +55,31 @@ fn add(
 
 // The rows of the lines that the lexer still has.
 fn read_rows(alloc: Global, lexer: &mut Lexer) -> Result<Power, Refusal>
-    ensures rows { IfOk result (λ rows. rows_or_fault (verdicts [] lexer.old.waiting) ≡ Ok rows) }
-    ensures fault { IfAt result (λ fault. rows_or_fault (verdicts [] lexer.old.waiting) ≡ Err fault) }
+    ensures rows { IfOk result (λ rows. said verdict lexer.old.waiting ≡ Ok rows) }
+    ensures fault { IfAt result (λ fault. said verdict lexer.old.waiting ≡ Err fault) }
 {
     let mut rows = Power::new(alloc);
     let mut names = IndexSet::new(alloc);
     while let Some(line) = lexer.next_line() {
         let row = read_row(alloc, &line)?;
-        match add(alloc, &mut rows, &mut names, row) {
-            Ok(true) => {}
-            Ok(false) => return Err(fault_at(line.first, Cause::TwiceRow)),
-            Err(NoMemory) => return Err(Refusal::NoMemory),
+        if !add(alloc, &mut rows, &mut names, row)? {
+            let twice = Fault::at(FileKind::Power, line.first, Cause::TwiceRow);
+            return Err(Refusal::At(twice));
         }
     }
     Ok(rows)
 }
 
 /// The rows of a power file, or its first fault. Faults stand by line; on one line those of its bytes and tokens come first, then
-/// `BadRow`, `BadVoltage`, `MinAboveMax` and `TwiceRow` in this order. It is linear in the file.
+/// `BadRow`, `BadVoltage`, `MinAboveMax` and `TwiceRow` in this order. Each row's lowest voltage is at most its highest. It is linear in
+/// the file.
 pub fn read_power(alloc: Global, bytes: &[u8]) -> Result<Power, Refusal>
     ensures rows { IfOk result (λ power. power_of bytes.now ≡ Ok power) }
     ensures fault { IfAt result (λ fault. power_of bytes.now ≡ Err fault) }
+    ensures ordered { IfOk result (λ power. All IsOrdered power) }
+    ensures few { IfOk result (λ power. length power < 2 ^ 32) }
 {
-    let Ok(mut lexer) = Lexer::new(alloc, FileKind::Power) else {
-        return Err(Refusal::NoMemory);
-    };
+    let mut lexer = Lexer::new(alloc, FileKind::Power)?;
     // a refusal is kept: the end of the file answers it again
     let _ = lexer.feed(bytes);
     let ended = lexer.finish();

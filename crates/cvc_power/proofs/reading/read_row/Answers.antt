@@ -10,4 +10,4 @@ get-requires c = has_tokens _ _ (c.in-Ok.ensures ∙ ap (λ ts. span_of (map tex
 pub returns-clause-row : goal.returns-clause-row
 returns-clause-row c =
     let ok = c.in-Ok.ensures ∙ ap (λ ts. span_of (map text_of ts)) c.as_slice.ensures in
-    is_row c.args.line.now c.in-Ok.span c.get.result.now c.in-Ok-of.name ok (has_tokens _ _ ok) c.get.ensures (c.in-Ok-of.ensures ∙ c.bytes.ensures)
+    is_row c.args.line.now c.in-Ok.span c.get.result.now c.in_ok-name.name ok (has_tokens _ _ ok) c.get.ensures (c.in_ok-name.ensures ∙ c.bytes.ensures)

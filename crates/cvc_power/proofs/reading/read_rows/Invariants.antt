@@ -1,7 +1,9 @@
 use Rattle.std.proofs.Common.{◌≡◌, List, [], map, length}
 use Rattle.cvc_base.specs.declared.line.Line.{Line}
-use Rattle.cvc_power.specs.Power.{name_of, rows_or_fault, verdicts}
-use Rattle.cvc_power.proofs.Verdicts.{behind}
+use Rattle.cvc_base.specs.Verdicts.{rows_or_fault}
+use Rattle.cvc_lex.specs.Judged.{said, verdicts}
+use Rattle.cvc_lex.proofs.Judging.{behind}
+use Rattle.cvc_power.specs.Power.{name_of, verdict}
 use Rattle.cvc_power.proofs.reading.read_rows.Given as goal
 
 -- the lines so far have these rows and names, and the verdicts on the lines that wait decide the rest
@@ -9,7 +11,7 @@ abbrev pub invariant-loop-line : goal.invariant-loop-line
 invariant-loop-line l = record {
   earlier : List Line;
   names : map (λ name. name.items) l.names.keys ≡ map name_of earlier;
-  rest : rows_or_fault (verdicts [] l.fn.lexer.waiting) ≡ behind l.rows (rows_or_fault (verdicts earlier l.lexer.waiting));
+  rest : said verdict l.fn.lexer.waiting ≡ behind l.rows (rows_or_fault (verdicts verdict earlier l.lexer.waiting));
 }
 
 abbrev pub decreases-loop-line : goal.decreases-loop-line
