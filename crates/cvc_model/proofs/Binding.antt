@@ -1,5 +1,5 @@
 -- The voltages that a row can have.
-use Rattle.std.proofs.Common.{◌≡◌, ℕ, zero, suc, ◌<◌, ◌^◌, Bool, true, false, cond, List, [], ◌∷◌, map, length, find, slice_get, Option, Some, None, is_some, unwrap_or, option_map, Result, Ok, Err, ℤ, pos, refl, sym, ap, subst, ◌∙◌, arith, rules, codes}
+use Rattle.std.proofs.Common.{◌≡◌, ℕ, zero, suc, ◌≤◌, Bool, true, false, cond, List, [], ◌∷◌, ◌++◌, map, length, find, slice_get, Option, Some, None, is_some, unwrap_or, option_map, Result, Ok, Err, ℤ, pos, refl, sym, ap, subst, ◌∙◌, arith, rules, codes}
 use Rattle.std.proofs.lemmas.Int.{ints, clamps}
 use Rattle.std.proofs.lemmas.Slice.Eq.{bytes_eq-Decides}
 use Rattle.std.proofs.lemmas.Option.{slice_get_within}
@@ -14,6 +14,8 @@ use Rattle.cvc_base.specs.declared.fault.Fault.{Fault}
 use Rattle.cvc_base.specs.declared.fault.FileKind.TheVariants.{Models}
 use Rattle.cvc_base.specs.declared.line.Line.{Line}
 use Rattle.cvc_base.specs.Verdicts.{in_front, rows_or_fault, then_lexical}
+use Rattle.cvc_lex.proofs.Counted.{few_lines}
+use Rattle.cvc_lex.specs.Judged.{judged, said, verdicts}
 use Rattle.cvc_lex.specs.Lines.{closed_at_end, lexical}
 use Rattle.cvc_units.specs.declared.fault.NumFault.{NumFault}
 use Rattle.cvc_units.specs.Number.{number_of}
@@ -24,7 +26,6 @@ use Rattle.cvc_model.specs.Settings.{Setting, has_key, key_of, limit_in, then_wi
 use Rattle.cvc_model.specs.Rows.{Content, corners_of, in_order, magnitude_of, no_content, row_from, row_in, row_of, row_with, text_of, volts_of, volts_with, with_item, with_settings, with_test, with_text, with_texts}
 use Rattle.cvc_model.specs.Models.{at_line, models_of, verdict}
 use Rattle.cvc_model.specs.Bindable.{AreBindable, AreVoltsOf}
-use Rattle.cvc_model.proofs.Counting.{few_lines}
 
 -- ## Keys other than that of the threshold
 
@@ -208,12 +209,12 @@ pub record AreRowsOf (lines : List Line) (rows : List ModelRow) : Type 0 where
   pub count : length rows ≡ length lines
   pub each : (place : ℕ) (row : ModelRow) → slice_get rows place ≡ Some row → AreVoltsOf row.kind row.volts
 
-pub rows_are : (lines : List Line) (rows : List ModelRow) → rows_or_fault (map verdict lines) ≡ Ok rows → AreRowsOf lines rows
-unfolding rows_or_fault
-rows_are [] rows e =
+pub rows_are : (earlier lines : List Line) (rows : List ModelRow) → rows_or_fault (verdicts verdict earlier lines) ≡ Ok rows → AreRowsOf lines rows
+unfolding verdicts rows_or_fault
+rows_are earlier [] rows e =
     let none : [] ≡ rows = cc in
     subst (AreRowsOf []) none (record { count = refl; each = λ place row at. absurd (omega (arith, slice_get_within [] place row at)) })
-rows_are (line ∷ lines) rows e = by (row_of line) refl (rows_or_fault (map verdict lines)) (rows_are lines) e
+rows_are earlier (line ∷ lines) rows e = by (row_of line) refl (rows_or_fault (verdicts verdict (earlier ++ line ∷ []) lines)) (rows_are (earlier ++ line ∷ []) lines) e
   where
     by : (r : Result ModelRow Cause) → row_of line ≡ r → (later : Result (List ModelRow) Fault) → ((more : List ModelRow) → later ≡ Ok more → AreRowsOf lines more)
         → in_front (at_line line.first r) later ≡ Ok rows → AreRowsOf (line ∷ lines) rows
@@ -230,15 +231,15 @@ rows_are (line ∷ lines) rows e = by (row_of line) refl (rows_or_fault (map ver
 
 -- the rows of a whole file
 pub models_are : (bytes : List ℕ) (rows : List ModelRow) → models_of bytes ≡ Ok rows → AreBindable rows
-unfolding models_of
+unfolding judged
 models_are bytes rows e = by (lexical Models bytes) refl e
   where
-    by : (o : Option Fault) → lexical Models bytes ≡ o → then_lexical o (rows_or_fault (map verdict (closed_at_end Models bytes))) ≡ Ok rows → AreBindable rows
+    by : (o : Option Fault) → lexical Models bytes ≡ o → then_lexical o (said verdict (closed_at_end Models bytes)) ≡ Ok rows → AreBindable rows
     by None none f =
-        let are = rows_are (closed_at_end Models bytes) rows f in
-        let few = few_lines bytes none in
-        record { few = subst (λ (n : ℕ). n < 2 ^ 32) (sym are.count) few; each = are.each }
-    by (Some fault) found f = absurd (never (rows_or_fault (map verdict (closed_at_end Models bytes))) f)
+        let are = rows_are [] (closed_at_end Models bytes) rows f in
+        let few : length (closed_at_end Models bytes) ≤ 16777216 = few_lines Models bytes none in
+        record { few = omega (arith, are.count); each = are.each }
+    by (Some fault) found f = absurd (never (said verdict (closed_at_end Models bytes)) f)
       where
         never : (r : Result (List ModelRow) Fault) → then_lexical (Some fault) r ≡ Ok rows → ⊥
         never (Ok more) g = cc

@@ -1,8 +1,6 @@
 pub mod Keys
-pub mod Counting
 pub mod Binding
 pub mod Verdicts
-pub mod Whole
 pub mod Places
 pub mod Entries
 pub mod Tokens

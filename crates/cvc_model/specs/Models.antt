@@ -1,13 +1,12 @@
 -- The rows of a model file, or its first fault. A file has its rows where no line has a fault. Else its first fault is by line, and on one line a lexical
 -- fault goes first: so a row's fault is the first exactly where its line ends before the line of the first lexical fault.
-use Rattle.std.specs.Prelude.{ℕ, List, map, Result, Ok, Err}
+use Rattle.std.specs.Prelude.{ℕ, List, Result, Ok, Err}
 use Rattle.cvc_base.specs.declared.cause.Cause.{Cause}
 use Rattle.cvc_base.specs.declared.fault.Fault.{Fault}
 use Rattle.cvc_base.specs.declared.fault.FileKind.TheVariants.{Models}
 use Rattle.cvc_base.specs.declared.line.Line.{Line}
 use Rattle.cvc_base.specs.Faults.{fault_on}
-use Rattle.cvc_base.specs.Verdicts.{rows_or_fault, then_lexical}
-use Rattle.cvc_lex.specs.Lines.{lexical, closed_at_end}
+use Rattle.cvc_lex.specs.Judged.{judged}
 use Rattle.cvc_model.specs.declared.row.ModelRow.{ModelRow}
 use Rattle.cvc_model.specs.Rows.{row_of}
 
@@ -15,10 +14,10 @@ abbrev pub at_line : ℕ → Result ModelRow Cause → Result ModelRow Fault
 at_line number (Ok row) = Ok row
 at_line number (Err cause) = Err (fault_on Models number cause)
 
--- the verdict on a line: its row, or its first fault
-abbrev pub verdict : Line → Result ModelRow Fault
-verdict line = at_line line.first (row_of line)
+-- the verdict on a line, whatever stands before it: its row, or its first fault
+abbrev pub verdict : List Line → Line → Result ModelRow Fault
+verdict earlier line = at_line line.first (row_of line)
 
--- the rows of a whole file, or its first fault. Of the lines only those are judged that close before the line of a lexical fault.
-unfoldable pub models_of : List ℕ → Result (List ModelRow) Fault
-models_of bytes = then_lexical (lexical Models bytes) (rows_or_fault (map verdict (closed_at_end Models bytes)))
+-- the rows of a whole file, or its first fault
+abbrev pub models_of : List ℕ → Result (List ModelRow) Fault
+models_of bytes = judged Models verdict bytes

@@ -1,7 +1,7 @@
 //! Whole model files.
-ghost use Rattle.std.specs.Prelude.{◌≡◌, Ok, Err, IfOk, map};
+ghost use Rattle.std.specs.Prelude.{◌≡◌, Ok, Err, IfOk};
 ghost use Rattle.cvc_base.specs.Answers.{Gives, GivesOrStops, IfAt};
-ghost use Rattle.cvc_base.specs.Verdicts.{rows_or_fault};
+ghost use Rattle.cvc_lex.specs.Judged.{said};
 ghost use Rattle.cvc_model.specs.Rows.{row_of};
 ghost use Rattle.cvc_model.specs.Bindable.{AreBindable};
 ghost use Rattle.cvc_model.specs.Models.{models_of, verdict};
@@ -37,7 +37,7 @@ fn read_row(alloc: Global, line: &Line) -> Result<ModelRow, Stop>
 
 // The rows of the lines that the lexer still has.
 fn read_rows(alloc: Global, lexer: &mut Lexer) -> Result<ItemList<ModelRow>, Refusal>
-    ensures { Gives (λ rows. rows) result (rows_or_fault (map verdict lexer.old.waiting)) }
+    ensures { Gives (λ rows. rows) result (said verdict lexer.old.waiting) }
 {
     let mut rows = ItemList::new(alloc);
     while let Some(line) = lexer.next_line() {

@@ -1,12 +1,17 @@
-use Rattle.std.proofs.Common.{◌≡◌, map, length}
+use Rattle.std.proofs.Common.{◌≡◌, List, length}
+use Rattle.cvc_base.specs.declared.line.Line.{Line}
 use Rattle.cvc_base.specs.Verdicts.{rows_or_fault}
+use Rattle.cvc_lex.specs.Judged.{said, verdicts}
+use Rattle.cvc_lex.proofs.Judging.{behind}
 use Rattle.cvc_model.specs.Models.{verdict}
-use Rattle.cvc_model.proofs.Verdicts.{behind}
 use Rattle.cvc_model.proofs.reading.read_rows.Given as goal
 
 -- the verdicts on the lines that wait decide the rest
 abbrev pub invariant-loop-line : goal.invariant-loop-line
-invariant-loop-line l = rows_or_fault (map verdict l.fn.lexer.waiting) ≡ behind l.rows (rows_or_fault (map verdict l.lexer.waiting))
+invariant-loop-line l = record {
+  earlier : List Line;
+  rest : said verdict l.fn.lexer.waiting ≡ behind l.rows (rows_or_fault (verdicts verdict earlier l.lexer.waiting));
+}
 
 abbrev pub decreases-loop-line : goal.decreases-loop-line
 decreases-loop-line l = length l.lexer.waiting
