@@ -30,7 +30,7 @@ fn put(list: &mut Findings, found: Option<Finding>) -> Result<(), NoMemory>
 }
 
 /// Puts all findings of a list last.
-fn put_all(found: &[Finding], list: &mut Findings) -> Result<(), NoMemory>
+pub(crate) fn put_all(found: &[Finding], list: &mut Findings) -> Result<(), NoMemory>
     ensures { OnOk result (list.new ≡ list.old ++ found.now) }
 {
     for finding in found {

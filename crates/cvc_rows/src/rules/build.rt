@@ -1,6 +1,6 @@
 //! Circuits from tables, and their findings.
-ghost use Rattle.std.specs.Prelude.{◌≡◌, IsTrue, IfOk, length};
-ghost use Rattle.cvc_law.specs.Network.{pins_of, IsDevice, IsCircuit};
+ghost use Rattle.std.specs.Prelude.{◌≡◌, ℕ, ◌<◌, pos, ◌≤ℤ◌, IsTrue, IfOk, length};
+ghost use Rattle.cvc_law.specs.Network.{pin, pins_of, HasPins, IsDevice, IsCircuit};
 ghost use Rattle.cvc_rows.specs.TestCircuits.{AreOnNets, AreDevices, AreOrdered};
 
 use arrayvec::ArrayVec;
@@ -124,26 +124,44 @@ fn are_on_nets(net_count: usize, pins: &[NetId]) -> bool
     true
 }
 
-/// Whether the device may stand in a circuit of this many nets.
-fn is_device(net_count: usize, device: &Device) -> bool
-    ensures { IsTrue result → IsDevice net_count device.now }
+/// Whether the device has as many pins as its kind, each on one of this many nets.
+fn are_pins(net_count: usize, device: &Device) -> bool
+    ensures count { IsTrue result → HasPins device.now }
+    ensures nets { IsTrue result → (i : ℕ) → i < pins_of device.now.kind → pin device.now i < net_count }
 {
     if device.pins.len() != pin_count(device.kind) {
         return false;
     }
-    if !are_on_nets(net_count, device.pins.as_slice()) {
+    are_on_nets(net_count, device.pins.as_slice())
+}
+
+/// Whether the model's voltages may stand in a circuit.
+fn are_volts(volts: &Volts) -> bool
+    ensures drop { IsTrue result → pos 0 ≤ℤ volts.now.drop }
+    ensures junction { IsTrue result → pos 0 ≤ℤ volts.now.junction }
+    ensures threshold { IsTrue result → pos 0 ≤ℤ volts.now.threshold }
+    ensures corners { IsTrue result → volts.now.threshold ≤ℤ volts.now.weak }
+{
+    if volts.drop.get() < 0 {
         return false;
     }
-    if device.volts.drop.get() < 0 {
+    if volts.junction.get() < 0 {
         return false;
     }
-    if device.volts.junction.get() < 0 {
+    if volts.threshold.get() > volts.weak.get() {
         return false;
     }
-    if device.volts.threshold.get() > device.volts.weak.get() {
+    volts.threshold.get() >= 0
+}
+
+/// Whether the device may stand in a circuit of this many nets.
+fn is_device(net_count: usize, device: &Device) -> bool
+    ensures { IsTrue result → IsDevice net_count device.now }
+{
+    if !are_pins(net_count, device) {
         return false;
     }
-    device.volts.threshold.get() >= 0
+    are_volts(&device.volts)
 }
 
 /// Whether each device may stand in a circuit of this many nets.
