@@ -2,7 +2,6 @@ pub mod Trails
 pub mod Stepping
 pub mod Splitting
 pub mod Opens
-pub mod Closing
 pub mod Meaning
 pub mod Operands
 pub mod Bounds
@@ -10,3 +9,5 @@ pub mod Parts
 pub mod Going
 pub mod Loading
 pub mod Giving
+pub mod Turning
+pub mod Ending

@@ -169,7 +169,7 @@ module _ (hands : ℕ) (s : State (Unit {0}) View) (id : ℕ) (v : View) (i : In
   }
 
 -- the word of a bound of a sound state
-bound_word : (c : Network) (m : Machine) → IsInMillion c → Sound c m → (b : ℕ) → IsBoundWord c (b % 2) (word_of c (b % 2) (slice_index m.bounds b))
+pub bound_word : (c : Network) (m : Machine) → IsInMillion c → Sound c m → (b : ℕ) → IsBoundWord c (b % 2) (word_of c (b % 2) (slice_index m.bounds b))
 bound_word c m range ok b = let most : slice_index m.bounds b ≤ widest c = ok.in_range.bounds.in_range b in
     let back : reach_in c (b % 2) (word_of c (b % 2) (slice_index m.bounds b)) ≡ slice_index m.bounds b = reach_in_word c range (b % 2) (slice_index m.bounds b) (omega arith) most in
     record { range = range; reach = omega arith; back = ap (word_of c (b % 2)) back }

@@ -6,3 +6,5 @@ pub mod Hands
 pub mod Seats
 pub mod Steps
 pub mod Runs
+pub mod Turns
+pub mod Closings

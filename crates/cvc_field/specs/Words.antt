@@ -1,11 +1,11 @@
 -- How a circuit lies in shared words: the count, then for each net the word of its low and the word of its high, then for each device its mark.
 -- The word of a bound stores it in millivolts, and a value of the machine is read out of it and put into it by the floor and the ceiling of the circuit.
-use Rattle.std.specs.Prelude.{ℕ, ◌+◌, ◌*◌, ◌%◌, ◌<◌, List, [], ◌∷◌, ◌++◌, Option, replicate, take, drop}
+use Rattle.std.specs.Prelude.{◌≡◌, ℕ, zero, suc, ◌+◌, ◌*◌, ◌%◌, ◌<◌, ◌≤◌, List, [], ◌∷◌, ◌++◌, Option, replicate, slice_index}
 use Rattle.cvc_law.specs.declared.interval.Fixed.{Fixed}
 use Rattle.cvc_law.specs.declared.interval.Interval.{Interval}
 use Rattle.cvc_law.specs.Network.{Network, devices}
 use Rattle.cvc_law.specs.Reach.{width, bound_on, declared_interval}
-use Rattle.cvc_law.specs.ReachWord.{stored, word_of, reach_in, bound_in}
+use Rattle.cvc_law.specs.ReachWord.{unknown_word, stored, word_of, reach_in, bound_in}
 use Rattle.cvc_core.specs.State.{Place, CountWord, BoundWord, MarkWord}
 
 -- the place is one of the circuit's
@@ -41,11 +41,15 @@ word_row (x ∷ xs) = stored 0 (bound_on 0 (declared_interval x)) ∷ stored 1 (
 abbrev pub start_words : Network → List ℕ
 start_words c = devices c ∷ (word_row c.fixed ++ replicate (devices c) 1)
 
--- ---- at the end
-abbrev pub intervals_in : List ℕ → List Interval
-intervals_in (x ∷ y ∷ ws) = record { low = bound_in 0 x; high = bound_in 1 y } ∷ intervals_in ws
-intervals_in _ = []
+-- ---- what words tell
+-- a word that isn't that of no bound stores a voltage within a million
+abbrev pub IsStoredWord : ℕ → ℕ → Type 0
+IsStoredWord side w = (w ≡ unknown_word side → ⊥) → (1 ≤ w) × (w ≤ 2000001)
 
--- the intervals that the words of that many nets tell
+-- the intervals of that many nets, from one on
+abbrev pub intervals_from : ℕ → ℕ → List ℕ → List Interval
+intervals_from zero i ws = []
+intervals_from (suc n) i ws = record { low = bound_in 0 (slice_index ws (1 + 2 * i)); high = bound_in 1 (slice_index ws (2 + 2 * i)) } ∷ intervals_from n (i + 1) ws
+
 abbrev pub last_intervals : ℕ → List ℕ → List Interval
-last_intervals n ws = intervals_in (take (2 * n) (drop 1 ws))
+last_intervals n ws = intervals_from n 0 ws

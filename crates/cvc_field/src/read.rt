@@ -31,6 +31,7 @@ impl<'c> Field<'c> {
         requires hand { IsHandOf self.now hand.old }
         requires net { n.0 < nets self.now.circuit.now }
         ensures hand { IsHandOf self.now hand.new }
+        ensures range { (hand.new.first ≡ hand.old.first) × (hand.new.numbers ≡ hand.old.numbers) }
         ensures step { (word : ℕ) × (hand.new ≡ record hand.old { trail = hand.old.trail ++ Loaded (bound_index n.0 side) word ∷ [] }) × (result ≡ bound_in (side_number side) word) }
         ensures seen { EachAtMost self.now.circuit.now (bound_index n.0 side) (reach_of self.now.circuit.now (side_number side) result) hand.old.trail }
         ensures within { WithinClosed self.now.circuit.now (bound_index n.0 side) (reach_of self.now.circuit.now (side_number side) result) }

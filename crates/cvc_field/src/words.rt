@@ -1,8 +1,7 @@
 //! How a bound is stored in a word.
 ghost use Rattle.std.specs.Prelude.{◌≡◌, ◌%◌, Some, pos, neg_ℤ, ◌≤ℤ◌};
-ghost use Rattle.cvc_law.specs.Network.{Network};
 ghost use Rattle.cvc_law.specs.ReachWord.{stored, bound_in};
-ghost use Rattle.cvc_field.specs.Views.{IsBoundWord};
+ghost use Rattle.cvc_field.specs.Words.{IsStoredWord};
 
 use cvc_base::Mv;
 
@@ -33,7 +32,7 @@ pub(crate) fn high_word(high: Option<Mv>) -> u64
 
 /// The bound that the word at an index stores: even indices are lows, odd ones highs.
 pub(crate) fn bound_in(index: usize, word: u64) -> Option<Mv>
-    requires { (c : Network) × IsBoundWord c (index % 2) word }
+    requires { IsStoredWord (index % 2) word }
     ensures { result ≡ bound_in (index % 2) word }
 {
     let unknown = if index % 2 == 0 { UNKNOWN_LOW } else { 0 };

@@ -1,3 +1,5 @@
+use Rattle.std.proofs.Common.{◌%◌, arith}
+use Rattle.cvc_field.proofs.Bounds.{within_words}
 use Rattle.std.proofs.Common.{◌≡◌, ◌+◌, ◌≤◌, ◌∷◌, ◌++◌, [], ℕ, sym, ap, ◌∙◌, subst}
 use Rattle.cvc_law.specs.ReachWord.{bound_in}
 use Rattle.cvc_core.specs.declared.actor.Intent.TheVariants.{Peek}
@@ -34,3 +36,9 @@ returns-clause-seen c = (read_told c.args.self.now.circuit.now c.args.hand.now.t
 
 pub returns-clause-within : goal.returns-clause-within
 returns-clause-within c = (read_told c.args.self.now.circuit.now c.args.hand.now.trail c.bound_index-bound.result _ _ c.peek-word.result c.bound_in.result c.bound_index-bound.ensures.index c.bound_index-bound.ensures.side c.bound_in.ensures (told c)).1
+
+pub bound_in-requires : goal.bound_in-requires
+bound_in-requires c = within_words c.args.self.now.circuit.now (c.bound_index-bound.result % 2) c.peek-word.result (omega arith) c.peek-word.ensures.told.0
+
+pub returns-clause-range : goal.returns-clause-range
+returns-clause-range c = (ap (λ (h : HandView). h.first) (after c).0, ap (λ (h : HandView). h.numbers) (after c).0)
