@@ -4,6 +4,7 @@
 mod find;
 mod flat;
 mod names;
+mod printing;
 mod resolve;
 mod rows;
 mod walk;

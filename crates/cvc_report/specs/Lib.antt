@@ -4,3 +4,4 @@ pub mod Writing
 pub mod Refusals
 pub mod Counts
 pub mod Summary
+pub mod Report

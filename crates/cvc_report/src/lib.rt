@@ -2,12 +2,16 @@
 #![tactic(auto)]
 
 mod counts;
+mod findings;
+mod nets;
 mod printed;
 mod refusal;
+mod report;
 mod summary;
 mod writer;
 
 pub use refusal::{write_refusal, write_word_refusal};
+pub use report::write_report;
 pub use summary::write_summary;
 
 #[cfg(test)]

@@ -4,6 +4,7 @@ ghost use Rattle.arrayvec.specs.ArrayVec.{array_vec_len};
 ghost use Rattle.cvc_report.specs.Writing.{Puts, WritesText, stand};
 ghost use Rattle.cvc_io.specs.Causes.{HasCause};
 ghost use Rattle.cvc_report.specs.Lines.{blank_before, line_end, line};
+ghost use Rattle.std.specs.List.{flat_map};
 
 use arrayvec::ArrayVec;
 use cvc_io::{Sink, WriteFailed};
@@ -92,8 +93,8 @@ impl<'k, K: Sink> Writer<'k, K> {
         self.put(word)
     }
 
-    // Puts each word behind a blank.
-    fn put_words(&mut self, words: &[&[u8]]) -> Result<(), WriteFailed>
+    /// Puts each word behind a blank.
+    pub(crate) fn put_words(&mut self, words: &[&[u8]]) -> Result<(), WriteFailed>
         ensures same_sink { self.new.sink.ghost_name ≡ self.old.sink.ghost_name }
         ensures put { Puts result (stand (K.written self.old.sink.now) self.old.waiting.items (K.faults self.old.sink.now)) (stand (K.written self.new.sink.now) self.new.waiting.items (K.faults self.new.sink.now)) (blank_before (map (λ w. w.now) words.now)) }
     {
@@ -101,6 +102,35 @@ impl<'k, K: Sink> Writer<'k, K> {
             self.put_word(word)?;
         }
         Ok(())
+    }
+
+    // Puts these texts, one behind another.
+    fn put_pieces(&mut self, pieces: &[&[u8]]) -> Result<(), WriteFailed>
+        ensures same_sink { self.new.sink.ghost_name ≡ self.old.sink.ghost_name }
+        ensures put { Puts result (stand (K.written self.old.sink.now) self.old.waiting.items (K.faults self.old.sink.now)) (stand (K.written self.new.sink.now) self.new.waiting.items (K.faults self.new.sink.now)) (flat_map (λ w. w.now) pieces.now) }
+    {
+        for piece in pieces {
+            self.put(piece)?;
+        }
+        Ok(())
+    }
+
+    /// Puts a name behind a blank. The name is given in pieces.
+    pub(crate) fn put_name(&mut self, pieces: &[&[u8]]) -> Result<(), WriteFailed>
+        ensures same_sink { self.new.sink.ghost_name ≡ self.old.sink.ghost_name }
+        ensures put { Puts result (stand (K.written self.old.sink.now) self.old.waiting.items (K.faults self.old.sink.now)) (stand (K.written self.new.sink.now) self.new.waiting.items (K.faults self.new.sink.now)) (32 ∷ flat_map (λ w. w.now) pieces.now) }
+    {
+        self.put(b" ")?;
+        self.put_pieces(pieces)
+    }
+
+    /// Begins a line with a word and a name, which is given in pieces.
+    pub(crate) fn begin_line(&mut self, word: &[u8], pieces: &[&[u8]]) -> Result<(), WriteFailed>
+        ensures same_sink { self.new.sink.ghost_name ≡ self.old.sink.ghost_name }
+        ensures put { Puts result (stand (K.written self.old.sink.now) self.old.waiting.items (K.faults self.old.sink.now)) (stand (K.written self.new.sink.now) self.new.waiting.items (K.faults self.new.sink.now)) (word.now ++ 32 ∷ flat_map (λ w. w.now) pieces.now) }
+    {
+        self.put(word)?;
+        self.put_name(pieces)
     }
 
     /// Ends a line with these words, each behind a blank.

@@ -1,6 +1,5 @@
-use Rattle.std.proofs.Common.{[], rules}
+use Rattle.std.proofs.Common.{rules}
 use Rattle.std.proofs.lemmas.Result.{err_from_is_err_and}
-use Rattle.cvc_report.specs.Writing.{stand}
 use Rattle.cvc_report.proofs.Putting.{puts_stopped, put_stopped, put_piece, put_inside}
 use Rattle.cvc_report.proofs.writer.Writer.put.Goals as goal
 
