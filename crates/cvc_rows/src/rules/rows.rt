@@ -1,6 +1,4 @@
 //! The worked rows of the rules.
-ghost use Rattle.std.specs.Prelude.{◌≡◌, length};
-
 use super::build::{Bounds, Card, Model, UNKNOWN, at, circuit_of, family_of, mos, plain, within};
 use cvc_base::{DevId, Finding, Findings, Kind, NoMemory, Rule};
 use cvc_bias::{bias_at, list_bias};
