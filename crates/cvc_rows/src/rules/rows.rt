@@ -1,8 +1,7 @@
 //! The worked rows of the rules.
-ghost use Rattle.std.specs.Prelude.{◌≡◌, length};
 
 use super::build::{Bounds, Card, Model, UNKNOWN, at, circuit_of, family_of, mos, plain, within};
-use cvc_base::{DevId, Finding, Findings, Kind, NoMemory, Rule};
+use cvc_base::{DevId, Finding, Kind, NoMemory, Rule};
 use cvc_bias::{bias_at, list_bias};
 use cvc_leak::{leak_at, list_leak};
 use std::alloc::Global;
