@@ -5,3 +5,5 @@
 mod fields;
 #[cfg(test)]
 mod tests;
+#[cfg(test)]
+mod threads;
