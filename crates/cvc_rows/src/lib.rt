@@ -9,3 +9,6 @@ mod lines;
 mod netlists;
 #[cfg(test)]
 mod rules;
+mod fields;
+mod tests;
+mod threads;
