@@ -4,11 +4,12 @@
 #[cfg(test)]
 mod cards;
 #[cfg(test)]
+mod fields;
+#[cfg(test)]
 mod lines;
 #[cfg(test)]
 mod netlists;
 #[cfg(test)]
 mod rules;
-mod fields;
-mod tests;
+#[cfg(test)]
 mod threads;
