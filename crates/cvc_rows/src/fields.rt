@@ -22,6 +22,7 @@ fn resistor() -> Device
         pins,
         volts: Volts {
             threshold: zero,
+            weak: zero,
             drop: zero,
             junction: zero,
             vgs: None,

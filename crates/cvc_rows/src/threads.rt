@@ -13,11 +13,12 @@ use std::thread::join_mut;
 
 // What a device of the ring has of voltages: a threshold in millivolts.
 fn volts(threshold: Mv) -> Volts
-    ensures { (result.drop ≡ pos 0) × (result.junction ≡ pos 0) }
+    ensures { (result.drop ≡ pos 0) × (result.junction ≡ pos 0) × (result.weak ≡ result.threshold) }
 {
     let zero = Mv::new(0).unwrap();
     Volts {
         threshold,
+        weak: threshold,
         drop: zero,
         junction: zero,
         vgs: None,
