@@ -78,11 +78,16 @@ impl<T> ItemList<T> {
         self.items.remove(i)
     }
 
-    /// Makes room for `n` more items, so that so many are put last without a move of the others. The list stays as it is.
+    /// Makes room for `n` more items, so that so many are put last without a move of the others; in an empty list for just so many. The list
+    /// stays as it is.
     pub fn reserve(&mut self, n: usize) -> Result<(), NoMemory>
         ensures { self.new ≡ self.old }
     {
-        self.items.reserve(n)?;
+        if self.items.is_empty() {
+            self.items.reserve_exact(n)?;
+        } else {
+            self.items.reserve(n)?;
+        }
         Ok(())
     }
 

@@ -12,8 +12,8 @@ use Rattle.cvc_card.specs.declared.card.Card.TheVariants as cards
 use Rattle.cvc_card.specs.declared.card.Ports.{Ports}
 use Rattle.cvc_card.specs.declared.form.Form.{Form}
 use Rattle.cvc_card.specs.declared.parts.Parts.{Parts}
-use Rattle.cvc_card.specs.declared.stop.Stop.{Stop}
-use Rattle.cvc_card.specs.declared.stop.Stop.TheVariants as stops
+use Rattle.cvc_base.specs.declared.stop.Stop.{Stop}
+use Rattle.cvc_base.specs.declared.stop.Stop.TheVariants as stops
 use Rattle.cvc_card.specs.Forms.{form_of}
 use Rattle.cvc_card.specs.Items.{Item, items_of}
 use Rattle.cvc_card.specs.Parts.{CardParts, parts_of}
@@ -80,7 +80,7 @@ module _ (line : Line) (tokens : List Token) (d : Token) (is : tokens ≡ line.t
 -- a stop at the items is one at the card
 pub stopped : (stop : Stop) (items : Result (List Item) Cause) (f : List Item → Result Card Cause) (answer : Result Card Cause) → answer ≡ (items >>= f) → Stops stop items → Stops stop answer
 stopped stops.NoMemory items f answer is h = tt
-stopped (stops.Fault cause) items f answer is h = is ∙ ap (λ x. x >>= f) h
+stopped (stops.At cause) items f answer is h = is ∙ ap (λ x. x >>= f) h
 
 -- the card of the parts is that of the items
 pub gathered : (form : Form) (name : List ℕ) (line : ℕ) (parts : CardParts) (items : Result (List Item) Cause) (is : List Item) (answer : Result Card Cause)

@@ -11,8 +11,8 @@ use Rattle.cvc_card.specs.declared.item.NamedValue.{NamedValue}
 use Rattle.cvc_card.specs.declared.item.Item.{Item as HeldItem}
 use Rattle.cvc_card.specs.declared.item.Item.TheVariants as held
 use Rattle.cvc_card.specs.declared.parts.Parts.{Parts}
-use Rattle.cvc_card.specs.declared.stop.Stop.{Stop}
-use Rattle.cvc_card.specs.declared.stop.Stop.TheVariants as stops
+use Rattle.cvc_base.specs.declared.stop.Stop.{Stop}
+use Rattle.cvc_base.specs.declared.stop.Stop.TheVariants as stops
 use Rattle.cvc_card.specs.Items.{Item, Named, Alone, followed_by, items_of}
 use Rattle.cvc_card.specs.Parts.{CardParts, is_pins, model_in, or_else, pair_in, parts_of, plain_token}
 
@@ -77,7 +77,7 @@ added form parts item = record {
 
 abbrev pub Stops : {Y : Type 0} → Stop → Result Y Cause → Type 0
 Stops stops.NoMemory answer = Unit {0}
-Stops (stops.Fault cause) answer = answer ≡ Err cause
+Stops (stops.At cause) answer = answer ≡ Err cause
 
 abbrev pub GivesCard : Result Card Stop → Result Card Cause → Type 0
 GivesCard (Ok card) answer = answer ≡ Ok card

@@ -11,9 +11,8 @@ use crate::card::{Card, DeviceCard, Letter};
 use crate::copies::{copied_pairs, copied_texts};
 use crate::item::NamedValue;
 use crate::parts::Parts;
-use crate::stop::Stop;
 use crate::words::{first_token, is_number};
-use cvc_base::{Cause, Text};
+use cvc_base::{Cause, Stop, Text};
 use std::alloc::Global;
 
 fn net_count(letter: Letter) -> usize
@@ -132,11 +131,11 @@ pub(crate) fn device_card(
     let plain = parts.plain.as_slice();
     let count = net_count(letter);
     if plain.len() < count {
-        return Err(Stop::Fault(Cause::ShortCard));
+        return Err(Stop::At(Cause::ShortCard));
     }
     let (nets, more) = plain.split_at(count);
     let Some(model) = chosen_model(letter, parts.model, more) else {
-        return Err(Stop::Fault(Cause::ShortCard));
+        return Err(Stop::At(Cause::ShortCard));
     };
     Ok(Card::Device(DeviceCard {
         letter,

@@ -7,8 +7,7 @@ ghost use Rattle.cvc_card.specs.Reading.{GivesCard, parts_held, texts_held};
 use crate::card::{Card, CellCard};
 use crate::copies::{copied_pairs, copied_texts};
 use crate::parts::Parts;
-use crate::stop::Stop;
-use cvc_base::{Cause, NoMemory, Text, Texts};
+use cvc_base::{Cause, NoMemory, Stop, Text, Texts};
 use std::alloc::Global;
 
 /// The begin of a cell. It is short where the cell has no name.
@@ -16,7 +15,7 @@ pub(crate) fn cell_card(alloc: Global, line: u32, parts: &Parts<'_>) -> Result<C
     ensures { GivesCard result (cell_card line (parts_held parts.now).plain (parts_held parts.now).pairs) }
 {
     let [name, ports @ ..] = parts.plain.as_slice() else {
-        return Err(Stop::Fault(Cause::ShortCard));
+        return Err(Stop::At(Cause::ShortCard));
     };
     Ok(Card::Subckt(CellCard {
         name: Text::of(alloc, name)?,

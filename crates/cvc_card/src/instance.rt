@@ -11,9 +11,8 @@ use crate::card::{Card, InstCard, Ports};
 use crate::copies::{copied_pairs, copied_texts};
 use crate::item::NamedValue;
 use crate::parts::Parts;
-use crate::stop::Stop;
 use crate::words::{first_token, is_slash};
-use cvc_base::{Cause, NoMemory, Text};
+use cvc_base::{Cause, NoMemory, Stop, Text};
 use std::alloc::Global;
 use std::collections::HashSet;
 
@@ -91,10 +90,10 @@ pub(crate) fn instance_card(
 {
     let (nets, cell) = nets_and_cell(parts.plain.as_slice());
     if are_bad_pins(alloc, nets, parts)? {
-        return Err(Stop::Fault(Cause::BadPins));
+        return Err(Stop::At(Cause::BadPins));
     }
     let Some(cell) = cell else {
-        return Err(Stop::Fault(Cause::ShortCard));
+        return Err(Stop::At(Cause::ShortCard));
     };
     Ok(Card::Inst(InstCard {
         name: Text::of(alloc, name)?,

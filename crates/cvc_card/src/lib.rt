@@ -12,7 +12,6 @@ mod instance;
 mod item;
 mod parts;
 mod read;
-mod stop;
 mod words;
 
 pub use card::{Card, CellCard, DeviceCard, InstCard, Letter, Ports};

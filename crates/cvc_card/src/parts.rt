@@ -6,9 +6,8 @@ ghost use Rattle.cvc_card.specs.Reading.{GivesParts, added, item_of, pair_of, pa
 
 use crate::form::Form;
 use crate::item::{Item, NamedValue, next_item};
-use crate::stop::Stop;
 use crate::words::{between_brackets, is_dollar, is_keyword, is_model_bracket, is_slash};
-use cvc_base::{NoMemory, Token};
+use cvc_base::{NoMemory, Stop, Token};
 use std::alloc::Global;
 
 /// What the items of a card say.

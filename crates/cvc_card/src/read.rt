@@ -12,8 +12,7 @@ use crate::dots::{cell_card, end_name, global_names};
 use crate::form::{Form, form_of};
 use crate::instance::instance_card;
 use crate::parts::{Parts, parts_of};
-use crate::stop::Stop;
-use cvc_base::{Fault, FileKind, Line, Place, Refusal};
+use cvc_base::{Fault, FileKind, Line, Refusal, Stop};
 use std::alloc::Global;
 
 #[tactic(auto, unfolding(crate::specs::Card::card_from))]
@@ -64,12 +63,6 @@ pub fn read_card(alloc: Global, line: &Line) -> Result<Card, Refusal>
     match card(alloc, line) {
         Ok(card) => Ok(card),
         Err(Stop::NoMemory) => Err(Refusal::NoMemory),
-        Err(Stop::Fault(cause)) => Err(Refusal::At(Fault {
-            place: Place {
-                file: FileKind::Netlist,
-                line: line.first,
-            },
-            cause,
-        })),
+        Err(Stop::At(cause)) => Err(Refusal::At(Fault::at(FileKind::Netlist, line.first, cause))),
     }
 }

@@ -7,7 +7,9 @@ use Rattle.cvc_base.specs.declared.line.Line.{Line}
 use Rattle.cvc_io.specs.Causes.{Rose}
 use Rattle.cvc_io.specs.Files.{Files, Counts, NoneFalls, content}
 use Rattle.cvc_run.specs.Forms.{Card, card_verdict, model_verdict, supply_verdict}
-use Rattle.cvc_run.specs.Judged.{judged, said, then_lexical, Gives}
+use Rattle.cvc_base.specs.Verdicts.{then_lexical}
+use Rattle.cvc_lex.specs.Judged.{judged, said}
+use Rattle.cvc_run.specs.Judged.{Gives}
 use Rattle.cvc_run.specs.Outcome.{IsEnd, IsJobOutcome, IsDue, HasNetlist, HasModels}
 use Rattle.cvc_run.specs.Reading.{Reading, Refused, Accepted, netlist_of, models_of, power_of, some_model, with_netlist, with_models, with_power, bound}
 use Rattle.cvc_run.specs.Refusals.{refusal}

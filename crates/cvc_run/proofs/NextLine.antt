@@ -9,7 +9,9 @@ use Rattle.cvc_base.specs.declared.fault.FileKind.TheVariants.{Netlist, Models, 
 use Rattle.cvc_base.specs.declared.line.Line.{Line}
 use Rattle.cvc_base.specs.Faults.{fault_on}
 use Rattle.cvc_run.specs.Forms.{name_of, texts_of, is_model, card_after, supply_after, card_verdict, model_verdict, supply_verdict}
-use Rattle.cvc_run.specs.Judged.{verdicts, in_front, all_or_fault, said, built, not_built_at, then_lexical}
+use Rattle.cvc_base.specs.Verdicts.{in_front, rows_or_fault, then_lexical}
+use Rattle.cvc_lex.specs.Judged.{verdicts, said}
+use Rattle.cvc_run.specs.Judged.{built, not_built_at}
 use Rattle.cvc_run.specs.Names.{card_view}
 use Rattle.cvc_run.specs.Reading.{some_model}
 use Rattle.cvc_run.specs.declared.rows.ResistorCard.{ResistorCard}
@@ -61,12 +63,12 @@ fault_stays None fault = refl
 fault_stays (Some other) fault = refl
 
 by_first : (line : Line) (lines : List Line) (test : Bool) → is_model (texts_of line) ≡ test
-    → said model_verdict (line ∷ lines) ≡ in_front (built Models line (if test then Some tt else None)) (all_or_fault (verdicts model_verdict (line ∷ []) lines))
-unfolding verdicts all_or_fault
-by_first line lines test e = ap (λ t. in_front (built Models line (if t then Some tt else None)) (all_or_fault (verdicts model_verdict (line ∷ []) lines))) e
+    → said model_verdict (line ∷ lines) ≡ in_front (built Models line (if test then Some tt else None)) (rows_or_fault (verdicts model_verdict (line ∷ []) lines))
+unfolding verdicts rows_or_fault
+by_first line lines test e = ap (λ t. in_front (built Models line (if t then Some tt else None)) (rows_or_fault (verdicts model_verdict (line ∷ []) lines))) e
 
 no_lines : (lines : List Line) → length lines ≡ 0 → said model_verdict lines ≡ Ok []
-unfolding verdicts all_or_fault
+unfolding verdicts rows_or_fault
 no_lines [] e = refl
 no_lines (l ∷ ls) e = absurd cc
 
@@ -75,13 +77,13 @@ other_first [] first some_lines e = absurd (omega arith)
 other_first (l ∷ ls) first some_lines e = by_first l ls false e
 
 other_second : (lines : List Line) (first second : Line) → 1 < length lines → is_model (texts_of (get_or lines 0 first)) ≡ true → said model_verdict lines ≡ Err (not_built_at Models (get_or lines 1 second))
-unfolding verdicts all_or_fault
+unfolding verdicts rows_or_fault
 other_second [] first second two e = absurd (omega arith)
 other_second (l ∷ []) first second two e = absurd (omega arith)
 other_second (l ∷ m ∷ ms) first second two e = by_first l (m ∷ ms) true e
 
 only_model : (lines : List Line) (first : Line) → 0 < length lines → length lines ≤ 1 → is_model (texts_of (get_or lines 0 first)) ≡ true → said model_verdict lines ≡ Ok (tt ∷ [])
-unfolding verdicts all_or_fault
+unfolding verdicts rows_or_fault
 only_model [] first some_lines few e = absurd (omega arith)
 only_model (l ∷ []) first some_lines few e = by_first l [] true e
 only_model (l ∷ m ∷ ms) first some_lines few e = absurd (omega arith)

@@ -44,7 +44,7 @@ module _ (x : Lexing) (stream : List ℕ) (stands : StandsFor x stream 0) where
   scanned_at_end kind file finished (Err NoMemory) refused first fault is = absurd is
 
   -- its first fault is sure, whatever follows
-  pub scanned_before : (kind : FileKind) → x.file ≡ kind → x.finished ≡ false → (r : Refusal) → x.refused ≡ Some r → IfAt (Err r) (IsFirstFaultOf kind stream) → (fault : Option Fault) → IsFaultOf (Err r) fault
+  pub scanned_before : (kind : FileKind) → x.file ≡ kind → x.finished ≡ false → (r : Refusal) → x.refused ≡ Some r → IfAt {A = Unit {0}} (Err r) (IsFirstFaultOf kind stream) → (fault : Option Fault) → IsFaultOf (Err r) fault
       → (more : List ℕ) → IsScanned kind (stream ++ more) x.waiting fault
   scanned_before kind file finished (At f) refused sure fault is more = record {
     lines = (state_at (Some (At f)) refused).1 ∙ (λ i. closed_in (file i) (finished i) stream) ∙ sym (sure more).1;

@@ -3,19 +3,20 @@ use Rattle.std.proofs.Common.{◌≡◌, ℕ, ◌+◌, ◌<◌, ◌≤◌, List,
 use Rattle.std.proofs.lemmas.List.{take_more, take_all, take-append-drop, drop_more}
 use Rattle.cvc_base.specs.declared.fault.Fault.{Fault}
 use Rattle.cvc_base.specs.declared.line.Line.{Line}
-use Rattle.cvc_run.specs.Judged.{verdicts, in_front, all_or_fault, said}
+use Rattle.cvc_base.specs.Verdicts.{in_front, rows_or_fault}
+use Rattle.cvc_lex.specs.Judged.{verdicts, said}
 
 module _ {A : Type 0} (verdict : List Line → Line → Result A Fault) where
   -- a line with a row behind lines without a fault
-  more : (earlier lines : List Line) (line : Line) (rows : List A) (row : A) → all_or_fault (verdicts verdict earlier lines) ≡ Ok rows → verdict (earlier ++ lines) line ≡ Ok row
-      → all_or_fault (verdicts verdict earlier (lines ++ line ∷ [])) ≡ Ok (rows ++ row ∷ [])
-  unfolding verdicts all_or_fault
+  more : (earlier lines : List Line) (line : Line) (rows : List A) (row : A) → rows_or_fault (verdicts verdict earlier lines) ≡ Ok rows → verdict (earlier ++ lines) line ≡ Ok row
+      → rows_or_fault (verdicts verdict earlier (lines ++ line ∷ [])) ≡ Ok (rows ++ row ∷ [])
+  unfolding verdicts rows_or_fault
   more earlier [] line rows row e v =
       let none : rows ≡ [] = cc in
       let last : verdict earlier line ≡ Ok row = subst (λ ls. verdict ls line ≡ Ok row) (append-nil earlier) v in
       ap (λ r. in_front r (Ok [])) last ∙ ap (λ rs. Ok (rs ++ row ∷ [])) (sym none)
   more earlier (l ∷ ls) line rows row e v =
-      by (verdict earlier l) (all_or_fault (verdicts verdict (earlier ++ l ∷ []) ls)) (all_or_fault (verdicts verdict (earlier ++ l ∷ []) (ls ++ line ∷ [])))
+      by (verdict earlier l) (rows_or_fault (verdicts verdict (earlier ++ l ∷ []) ls)) (rows_or_fault (verdicts verdict (earlier ++ l ∷ []) (ls ++ line ∷ [])))
       (λ rs h. more (earlier ++ l ∷ []) ls line rs row h (subst (λ xs. verdict xs line ≡ Ok row) (sym (append_assoc earlier (l ∷ []) ls)) v)) e
     where
       by : (r : Result A Fault) (a b : Result (List A) Fault) → ((rs : List A) → a ≡ Ok rs → b ≡ Ok (rs ++ row ∷ [])) → in_front r a ≡ Ok rows → in_front r b ≡ Ok (rows ++ row ∷ [])
@@ -24,13 +25,13 @@ module _ {A : Type 0} (verdict : List Line → Line → Result A Fault) where
       by (Err f) a b h e = cc
 
   -- a line with a fault behind them
-  stop : (earlier lines : List Line) (line : Line) (later : List Line) (rows : List A) (fault : Fault) → all_or_fault (verdicts verdict earlier lines) ≡ Ok rows → verdict (earlier ++ lines) line ≡ Err fault
-      → all_or_fault (verdicts verdict earlier (lines ++ line ∷ later)) ≡ Err fault
-  unfolding verdicts all_or_fault
+  stop : (earlier lines : List Line) (line : Line) (later : List Line) (rows : List A) (fault : Fault) → rows_or_fault (verdicts verdict earlier lines) ≡ Ok rows → verdict (earlier ++ lines) line ≡ Err fault
+      → rows_or_fault (verdicts verdict earlier (lines ++ line ∷ later)) ≡ Err fault
+  unfolding verdicts rows_or_fault
   stop earlier [] line later rows fault e v =
-      ap (λ r. in_front r (all_or_fault (verdicts verdict (earlier ++ line ∷ []) later))) (subst (λ ls. verdict ls line ≡ Err fault) (append-nil earlier) v)
+      ap (λ r. in_front r (rows_or_fault (verdicts verdict (earlier ++ line ∷ []) later))) (subst (λ ls. verdict ls line ≡ Err fault) (append-nil earlier) v)
   stop earlier (l ∷ ls) line later rows fault e v =
-      by (verdict earlier l) (all_or_fault (verdicts verdict (earlier ++ l ∷ []) ls)) (all_or_fault (verdicts verdict (earlier ++ l ∷ []) (ls ++ line ∷ later)))
+      by (verdict earlier l) (rows_or_fault (verdicts verdict (earlier ++ l ∷ []) ls)) (rows_or_fault (verdicts verdict (earlier ++ l ∷ []) (ls ++ line ∷ later)))
       (λ rs h. stop (earlier ++ l ∷ []) ls line later rs fault h (subst (λ xs. verdict xs line ≡ Err fault) (sym (append_assoc earlier (l ∷ []) ls)) v)) e
     where
       by : (r : Result A Fault) (a b : Result (List A) Fault) → ((rs : List A) → a ≡ Ok rs → b ≡ Err fault) → in_front r a ≡ Ok rows → in_front r b ≡ Err fault
@@ -39,7 +40,7 @@ module _ {A : Type 0} (verdict : List Line → Line → Result A Fault) where
       by (Err f) a b h e = cc
 
   pub at_start : (lines : List Line) → said verdict (take 0 lines) ≡ Ok []
-  unfolding verdicts all_or_fault
+  unfolding verdicts rows_or_fault
   at_start lines = refl
 
   -- a walk through lines, at the line with the number i

@@ -14,7 +14,7 @@ use Rattle.cvc_law.specs.declared.device.Device.{Device}
 use Rattle.cvc_law.specs.Network.{Network}
 use Rattle.cvc_base.specs.Faults.{fault_on}
 use Rattle.cvc_run.specs.Report.{DeviceLabel, Labels}
-use Rattle.cvc_run.specs.Judged.{judged}
+use Rattle.cvc_lex.specs.Judged.{judged}
 use Rattle.cvc_run.specs.Forms.{Card, card_verdict, model_verdict, supply_verdict}
 use Rattle.cvc_run.specs.declared.job.Job.{Job}
 use Rattle.cvc_run.specs.declared.rows.Supply.{Supply}

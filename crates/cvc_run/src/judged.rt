@@ -8,7 +8,9 @@ ghost use Rattle.cvc_base.specs.declared.cause.Cause.TheVariants.{NotBuilt};
 ghost use Rattle.cvc_base.specs.declared.fault.FileKind.TheVariants.{Netlist, Models, Power};
 ghost use Rattle.cvc_base.specs.Faults.{fault_on};
 ghost use Rattle.cvc_run.specs.Forms.{card_after, card_verdict, model_verdict, name_of, supply_after, supply_verdict};
-ghost use Rattle.cvc_run.specs.Judged.{said, then_lexical, Gives};
+ghost use Rattle.cvc_base.specs.Verdicts.{then_lexical};
+ghost use Rattle.cvc_lex.specs.Judged.{said};
+ghost use Rattle.cvc_run.specs.Judged.{Gives};
 ghost use Rattle.cvc_run.specs.Names.{card_view, cards_view};
 ghost use Rattle.cvc_run.specs.Reading.{some_model};
 

@@ -1,6 +1,6 @@
 use Rattle.std.proofs.Common.{◌≡◌, ◌≤◌, Ok, map, length, take}
 use Rattle.cvc_run.specs.Forms.{card_verdict, name_of}
-use Rattle.cvc_run.specs.Judged.{said}
+use Rattle.cvc_lex.specs.Judged.{said}
 use Rattle.cvc_run.specs.Names.{cards_view}
 use Rattle.cvc_run.proofs.judged.said_cards.Given as goal
 

@@ -1,6 +1,6 @@
 use Rattle.std.proofs.Common.{◌≡◌, Ok, map, take}
 use Rattle.cvc_run.specs.Forms.{supply_verdict, name_of}
-use Rattle.cvc_run.specs.Judged.{said}
+use Rattle.cvc_lex.specs.Judged.{said}
 use Rattle.cvc_run.proofs.judged.said_supplies.Given as goal
 
 -- the lines so far say these rows, and have these names

@@ -29,7 +29,7 @@ returns-in-Err-clause-scanned g c =
     rest_read old new (fed.stream ++ piece) c.args.lexer.now.file c.feed.new.self.waiting c.in_ok-fault_of-2.field-0
     (takes_more old (g.S.Shelf.standing c.pieces.shelf) new fed.stream piece fed.taken c.in-Ok.ensures.bytes.0)
     (scanned_before c.feed.new.self (fed.stream ++ piece) (c.feed.ensures.stands fed.stream 0 fed.stands) c.args.lexer.now.file (c.feed.ensures.same.0 ∙ c.pieces.invariant.file) c.feed.ensures.same.1 c.in-Err.refusal c.in-Err.ensures.refused
-    (subst (λ (k : FileKind). IfAt (Err c.in-Err.refusal) (IsFirstFaultOf k (fed.stream ++ piece))) c.pieces.invariant.file (c.in-Err.ensures.sure fed.stream 0 fed.stands)) c.in_ok-fault_of-2.field-0 c.in_ok-fault_of-2.ensures)
+    (subst (λ (k : FileKind). IfAt {A = Unit {0}} (Err c.in-Err.refusal) (IsFirstFaultOf k (fed.stream ++ piece))) c.pieces.invariant.file (c.in-Err.ensures.sure fed.stream 0 fed.stands)) c.in_ok-fault_of-2.field-0 c.in_ok-fault_of-2.ensures)
 
 pub pieces-preserved : goal.pieces-preserved
 pieces-preserved g c =
