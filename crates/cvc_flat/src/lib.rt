@@ -4,6 +4,8 @@
 mod find;
 mod flat;
 mod names;
+mod nets;
+mod plan;
 mod resolve;
 mod rows;
 mod walk;
