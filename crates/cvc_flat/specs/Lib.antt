@@ -11,3 +11,4 @@ pub mod Held
 pub mod Names
 pub mod Tables
 pub mod Resolving
+pub mod Plans

@@ -5,6 +5,8 @@ mod find;
 mod flat;
 mod names;
 mod printing;
+mod nets;
+mod plan;
 mod resolve;
 mod rows;
 mod walk;
