@@ -1,6 +1,6 @@
 -- The instances of a walk have different names: on each level no name stands twice, and what lies behind an instance has its names on the way.
-use Rattle.std.proofs.Common.{◌≡◌, ℕ, zero, suc, ◌+◌, ◌<◌, List, [], ◌∷◌, ◌++◌, length, drop, map, refl, sym, ap, subst, ◌∙◌, append_assoc, length-append, arith, Bool, true, false, ◌||◌}
-use Rattle.std.specs.List.{flat_map, filter_map, list_any}
+use Rattle.std.proofs.Common.{◌≡◌, ℕ, zero, suc, List, [], ◌∷◌, ◌++◌, length, drop, map, refl, sym, ap, subst, ◌∙◌, append_assoc, length-append, arith, Bool, true, false, ◌||◌}
+use Rattle.std.specs.List.{flat_map, list_any}
 use Rattle.std.specs.Str.{bytes_eq}
 use Rattle.std.specs.Cmp.Lexicographic.{bytes_decides}
 use Rattle.std.proofs.lemmas.List.Elements.{filter_map-append}
@@ -10,7 +10,7 @@ use Rattle.cvc_card.specs.Card.{has_twice}
 use Rattle.cvc_cdl.specs.declared.netlist.Item.{Item}
 use Rattle.cvc_cdl.specs.declared.netlist.Item.TheVariants as items
 use Rattle.cvc_cdl.specs.declared.netlist.Netlist.{Netlist}
-use Rattle.cvc_cdl.specs.Building.{is_among, name_of_item}
+use Rattle.cvc_cdl.specs.Building.{name_of_item}
 use Rattle.cvc_flat.specs.Instances.{Instance, cell_at, names_to}
 use Rattle.cvc_flat.specs.Walk.{Visit, visits_at, walk}
 use Rattle.cvc_flat.specs.Flat.{instance_at, instances_behind}
@@ -127,12 +127,13 @@ or_right_false false b e = e
 all_in : (n : Netlist) (k : ℕ) (p : Instance) (its : List Item) → ((q : Instance) → Each (IsIn n q (cell_at n q).items) (instances_behind (walk n k q))) → Each (IsIn n p its) (of_items n k p its)
 all_in n k p [] deep = tt
 all_in n k p (items.Device d ∷ its) deep = each_map (IsIn n p its) (IsIn n p (items.Device d ∷ its)) (of_items n k p its) (in_more n p (items.Device d) its) (all_in n k p its deep)
-all_in n k p (items.Inst x ∷ its) deep =
-    (in_first n p (items.Inst x) its (x ∷ p) record { front = []; split = refl },
-     each_append (IsIn n p (items.Inst x ∷ its)) (instances_behind (walk n k (x ∷ p))) (of_items n k p its)
-       (each_map (IsIn n (x ∷ p) (cell_at n (x ∷ p)).items) (IsIn n p (items.Inst x ∷ its)) (instances_behind (walk n k (x ∷ p)))
-         (λ q w. in_first n p (items.Inst x) its q (behind_deeper (names_to p) x.name w.0 q w.2)) (deep (x ∷ p)))
-       (each_map (IsIn n p its) (IsIn n p (items.Inst x ∷ its)) (of_items n k p its) (in_more n p (items.Inst x) its) (all_in n k p its deep)))
+all_in n k p (items.Inst x ∷ its) deep = (
+  in_first n p (items.Inst x) its (x ∷ p) record { front = []; split = refl },
+  each_append (IsIn n p (items.Inst x ∷ its)) (instances_behind (walk n k (x ∷ p))) (of_items n k p its)
+      (each_map (IsIn n (x ∷ p) (cell_at n (x ∷ p)).items) (IsIn n p (items.Inst x ∷ its)) (instances_behind (walk n k (x ∷ p)))
+      (λ q w. in_first n p (items.Inst x) its q (behind_deeper (names_to p) x.name w.0 q w.2)) (deep (x ∷ p)))
+      (each_map (IsIn n p its) (IsIn n p (items.Inst x ∷ its)) (of_items n k p its) (in_more n p (items.Inst x) its) (all_in n k p its deep)),
+)
 
 all_in_walk : (n : Netlist) (k : ℕ) (p : Instance) → Each (IsIn n p (cell_at n p).items) (instances_behind (walk n k p))
 unfolding walk instances_behind
@@ -154,13 +155,14 @@ apart_items n k p (items.Inst x ∷ its) free deep =
     let rest : has_twice (map name_of_item its) ≡ false = or_right_false (list_any (bytes_eq x.name) (map name_of_item its)) (has_twice (map name_of_item its)) free in
     let own : IsBehind (names_to p) x.name (x ∷ p) = record { front = []; split = refl } in
     let others : (q : Instance) → IsBehind (names_to p) x.name q → Each (Different q) (of_items n k p its) =
-      λ q b. each_map (IsIn n p its) (Different q) (of_items n k p its) (λ r w. item_apart n p x its q r here b w) (all_in n k p its (all_in_walk n k)) in
-    (each_append (Different (x ∷ p)) (instances_behind (walk n k (x ∷ p))) (of_items n k p its)
-       (each_map (IsIn n (x ∷ p) (cell_at n (x ∷ p)).items) (Different (x ∷ p)) (instances_behind (walk n k (x ∷ p))) (λ q w e. longer (x ∷ p) q w.0 w.2 e) (all_in_walk n k (x ∷ p)))
-       (others (x ∷ p) own),
-     apart_append (instances_behind (walk n k (x ∷ p))) (of_items n k p its) (deep (x ∷ p)) (apart_items n k p its rest deep)
-       (each_map (IsIn n (x ∷ p) (cell_at n (x ∷ p)).items) (λ q. Each (Different q) (of_items n k p its)) (instances_behind (walk n k (x ∷ p)))
-         (λ q w. others q (behind_deeper (names_to p) x.name w.0 q w.2)) (all_in_walk n k (x ∷ p))))
+    λ q b. each_map (IsIn n p its) (Different q) (of_items n k p its) (λ r w. item_apart n p x its q r here b w) (all_in n k p its (all_in_walk n k)) in (
+      each_append (Different (x ∷ p)) (instances_behind (walk n k (x ∷ p))) (of_items n k p its)
+          (each_map (IsIn n (x ∷ p) (cell_at n (x ∷ p)).items) (Different (x ∷ p)) (instances_behind (walk n k (x ∷ p))) (λ q w e. longer (x ∷ p) q w.0 w.2 e) (all_in_walk n k (x ∷ p)))
+          (others (x ∷ p) own),
+      apart_append (instances_behind (walk n k (x ∷ p))) (of_items n k p its) (deep (x ∷ p)) (apart_items n k p its rest deep)
+          (each_map (IsIn n (x ∷ p) (cell_at n (x ∷ p)).items) (λ q. Each (Different q) (of_items n k p its)) (instances_behind (walk n k (x ∷ p)))
+          (λ q w. others q (behind_deeper (names_to p) x.name w.0 q w.2)) (all_in_walk n k (x ∷ p))),
+    )
   where
     longer : (q r : Instance) (name : List ℕ) → IsBehind (names_to q) name r → Different q r
     longer q r name b e =

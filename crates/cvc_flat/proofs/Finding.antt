@@ -1,8 +1,7 @@
 -- A net by the pieces of a text.
-use Rattle.std.proofs.Common.{◌≡◌, ℕ, zero, suc, ◌+◌, ◌<◌, ◌≤◌, ◌==◌, ◌&&◌, ◌||◌, Bool, true, false, cond, List, [], ◌∷◌, ◌++◌, length, map, take, drop, get_or, refl, sym, ap, subst, ◌∙◌, arith}
-use Rattle.std.specs.Prelude.{All, Option, Some, None, find, position, nat_lt, if◌then◌else◌}
-use Rattle.std.specs.Option.{option_map, option_map_or, option_and_then}
-use Rattle.std.specs.List.{position_or_len}
+use Rattle.std.proofs.Common.{◌≡◌, ℕ, ◌+◌, ◌<◌, ◌≤◌, ◌==◌, ◌&&◌, Bool, true, false, cond, List, [], ◌∷◌, length, map, take, drop, get_or, refl, sym, ap, subst, ◌∙◌, arith}
+use Rattle.std.specs.Prelude.{All, Option, Some, None, find, position, if◌then◌else◌}
+use Rattle.std.specs.Option.{option_map, option_map_or}
 use Rattle.std.specs.Str.{bytes_eq}
 use Rattle.std.specs.Cmp.Lexicographic.{bytes_decides}
 use Rattle.std.proofs.lemmas.Bool.{eq-eqb, eqb-true, false≢true}
@@ -19,7 +18,7 @@ use Rattle.cvc_flat.specs.FindNet.{is_slash, net_named, number_among, path_named
 use Rattle.cvc_flat.specs.Flat.{FlatList}
 use Rattle.cvc_flat.specs.Instances.{same_names}
 use Rattle.cvc_flat.specs.Names.{AreApart, place_of}
-use Rattle.cvc_flat.specs.Nets.{Link, Net, connected, name_of_link, names_of, net_of, net_within, same_net, top_net}
+use Rattle.cvc_flat.specs.Nets.{Link, Net, connected, net_of, net_within, same_net, top_net}
 use Rattle.cvc_flat.specs.Resolving.{AreNames, is_row}
 use Rattle.cvc_flat.specs.Tables.{AreWaysApart, IsPart, Way, link_at, link_of, names_on, net_at, no_link, pair_of, path_of, text, way_at, ways_of}
 use Rattle.cvc_flat.proofs.Lists.{all_head, all_tail, none_first}
@@ -71,16 +70,16 @@ module _ (names : List (List ℕ)) (parts : List InstancePart) (rows : List Inst
   pub row_is : (a b : NetRow) → Inside a → Inside b → same_net (net a) (net b) ≡ is_row a b
   row_is a b h k =
       bool_same (same_net (net a) (net b)) (is_row a b)
-        (λ e.
-          let texts : text names a.name ≡ text names b.name = (bytes_decides (text names a.name) (text names b.name)).0 (and_left (bytes_eq (text names a.name) (text names b.name)) (same_names (net a).within (net b).within) e) in
-          let within : (net a).within ≡ (net b).within = names_true (net a).within (net b).within (and_right (bytes_eq (text names a.name) (text names b.name)) (same_names (net a).within (net b).within) e) in
-          and_both (b.instance == a.instance) (b.name == a.name) (eq-eqb b.instance a.instance (sym (ways a.instance b.instance h.0 k.0 within))) (eq-eqb b.name a.name (sym (apart a.name b.name h.1 k.1 texts))))
-        (λ e.
-          let one : b.instance ≡ a.instance = eqb-true b.instance a.instance (and_left (b.instance == a.instance) (b.name == a.name) e) in
-          let two : b.name ≡ a.name = eqb-true b.name a.name (and_right (b.instance == a.instance) (b.name == a.name) e) in
-          and_both (bytes_eq (text names a.name) (text names b.name)) (same_names (net a).within (net b).within)
-            ((bytes_decides (text names a.name) (text names b.name)).1 (ap (text names) (sym two)))
-            (ap (same_names (net a).within) (ap (λ i. names_on names parts (way_at (ways_of rows) i)) one) ∙ names_same (net a).within))
+      (λ e.
+      let texts : text names a.name ≡ text names b.name = (bytes_decides (text names a.name) (text names b.name)).0 (and_left (bytes_eq (text names a.name) (text names b.name)) (same_names (net a).within (net b).within) e) in
+      let within : (net a).within ≡ (net b).within = names_true (net a).within (net b).within (and_right (bytes_eq (text names a.name) (text names b.name)) (same_names (net a).within (net b).within) e) in
+      and_both (a.instance == b.instance) (a.name == b.name) (eq-eqb a.instance b.instance (ways a.instance b.instance h.0 k.0 within)) (eq-eqb a.name b.name (apart a.name b.name h.1 k.1 texts)))
+      (λ e.
+      let one : a.instance ≡ b.instance = eqb-true a.instance b.instance (and_left (a.instance == b.instance) (a.name == b.name) e) in
+      let two : a.name ≡ b.name = eqb-true a.name b.name (and_right (a.instance == b.instance) (a.name == b.name) e) in
+      and_both (bytes_eq (text names a.name) (text names b.name)) (same_names (net a).within (net b).within)
+      ((bytes_decides (text names a.name) (text names b.name)).1 (ap (text names) two))
+      (ap (same_names (net a).within) (ap (λ i. names_on names parts (way_at (ways_of rows) i)) (sym one)) ∙ names_same (net a).within))
 
   pub number_row : (nets : List NetRow) (a : NetRow) → Inside a → All Inside nets → number_among (map net nets) (net a) ≡ position (is_row a) nets
   number_row nets a h all = place_alike (same_net (net a)) net (is_row a) nets (λ k d b. row_is a (get_or nets k d) h (all k d b))
@@ -110,7 +109,7 @@ module _ (names : List (List ℕ)) (parts : List InstancePart) (rows : List Inst
     all_unconnected : All (IsPart names) parts → All (λ (l : Link). connected l name ≡ None) (map (link_of names) parts)
     all_unconnected sound =
         All-map (λ (l : Link). connected l name ≡ None) (link_of names) parts
-          (λ k d b. ap (option_map (λ (c : Pair). c.value)) (unconnected (get_or parts k d).connections.items (sound k d b).1))
+        (λ k d b. ap (option_map (λ (c : Pair). c.value)) (unconnected (get_or parts k d).connections.items (sound k d b).1))
 
     pub own_net : (g : ℕ) → AreNames names g parts → (way : Way) → All (λ k. k < length parts) way
         → net_of (take g names) (path_of names parts way) name ≡ net_within (names_on names parts way) name
@@ -120,7 +119,7 @@ module _ (names : List (List ℕ)) (parts : List InstancePart) (rows : List Inst
         let inside : card < length parts = all_head (λ k. k < length parts) card up all in
         ap (λ b. if b then top_net name else option_map_or (net_of (take g names) (path_of names parts up)) (connected (link_at names parts card) name) (net_within (names_on names parts (card ∷ up)) name)) (not_among g are.below)
         ∙ ap (λ (o : Option (List ℕ)). option_map_or (net_of (take g names) (path_of names parts up)) o (net_within (names_on names parts (card ∷ up)) name))
-          (all_unconnected are.sound card no_link (omega (arith, length-map parts (link_of names), inside)))
+        (all_unconnected are.sound card no_link (omega (arith, length-map parts (link_of names), inside)))
 
     pub not_listed : (nets : List NetRow) (within : List (List ℕ)) → All Inside nets → number_among (map net nets) (net_within within name) ≡ None
     not_listed nets within all = no_place (same_net (net_within within name)) net nets (λ k d b. ap (λ c. c && same_names within (net (get_or nets k d)).within) (not_there (get_or nets k d).name (all k d b).1))

@@ -1,8 +1,7 @@
 -- Devices of one group have one model and the same parameters.
-use Rattle.std.proofs.Common.{◌≡◌, ℕ, ◌<◌, List, length, map, get_or, refl, sym, ap, subst, ◌∙◌, arith}
+use Rattle.std.proofs.Common.{◌≡◌, ℕ, ◌<◌, length, get_or, sym, ap, ◌∙◌, arith}
 use Rattle.std.specs.Prelude.{slice_index}
 use Rattle.std.proofs.lemmas.List.{get_or-map, length-map}
-use Rattle.cvc_base.specs.declared.param.Param.{Param}
 use Rattle.cvc_flat.specs.declared.rows.DeviceRow.{DeviceRow}
 use Rattle.cvc_flat.specs.Flat.{FlatDevice}
 use Rattle.cvc_flat.specs.Held.{IsGroup, device, no_device}
@@ -19,12 +18,12 @@ group_of_row t d r h e below =
     let here : device (held_of t).list d ≡ device_at t (table_ways t) r = device_is t d r h ∙ ap (device_at t (table_ways t)) (sym e) in
     let there : (k : ℕ) → k < length (held_of t).list.devices → k < length t.devices = λ k b. omega (arith, length-map {A = DeviceRow} {B = FlatDevice}, b) in
     record {
-  listed = ap (λ (x : DeviceRow). x.group) e ∙ sym (group_is t d r h);
-  below = below;
-  alike = λ k b same. ap (λ (x : FlatDevice). x.model) (device_is t k r (there k b))
-      ∙ ap (λ g. text t.names (group_at t.groups g).model) (sym (group_is t k r (there k b)) ∙ same)
-      ∙ sym (ap (λ (x : FlatDevice). x.model) here);
-  same = λ k b same. ap (λ (x : FlatDevice). x.params) (device_is t k r (there k b))
-      ∙ ap (λ g. (group_at t.groups g).params) (sym (group_is t k r (there k b)) ∙ same)
-      ∙ sym (ap (λ (x : FlatDevice). x.params) here);
-}
+      listed = ap (λ (x : DeviceRow). x.group) e ∙ sym (group_is t d r h);
+      below = below;
+      alike = λ k b same. ap (λ (x : FlatDevice). x.model) (device_is t k r (there k b))
+          ∙ ap (λ g. text t.names (group_at t.groups g).model) (sym (group_is t k r (there k b)) ∙ same)
+          ∙ sym (ap (λ (x : FlatDevice). x.model) here);
+      same = λ k b same. ap (λ (x : FlatDevice). x.params) (device_is t k r (there k b))
+          ∙ ap (λ g. (group_at t.groups g).params) (sym (group_is t k r (there k b)) ∙ same)
+          ∙ sym (ap (λ (x : FlatDevice). x.params) here);
+    }

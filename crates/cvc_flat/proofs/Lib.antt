@@ -8,6 +8,7 @@ pub mod Stripping
 pub mod Naming
 pub mod Pieces
 pub mod Finding
+pub mod Numbering
 pub mod Stack
 pub mod Once
 pub mod Following

@@ -1,6 +1,6 @@
 -- Instances by their names, in tables where no two have the same.
-use Rattle.std.proofs.Common.{◌≡◌, ℕ, zero, suc, ◌+◌, ◌-◌, ◌<◌, ◌≤◌, ◌&&◌, Bool, true, false, cond, List, [], ◌∷◌, ◌++◌, length, map, drop, get_or, refl, sym, ap, subst, ◌∙◌, arith}
-use Rattle.std.specs.Prelude.{Option, Some, None, find}
+use Rattle.std.proofs.Common.{◌≡◌, ℕ, zero, suc, ◌+◌, ◌-◌, ◌<◌, ◌≤◌, ◌&&◌, Bool, true, false, cond, List, [], ◌∷◌, length, map, drop, get_or, refl, sym, ap, ◌∙◌, arith}
+use Rattle.std.specs.Prelude.{Some, None, find}
 use Rattle.std.specs.Option.{option_map}
 use Rattle.std.specs.Str.{bytes_eq}
 use Rattle.std.specs.Cmp.Lexicographic.{bytes_decides}
@@ -12,8 +12,8 @@ use Rattle.cvc_flat.specs.FindNet.{net_named, path_named}
 use Rattle.cvc_flat.specs.Flat.{FlatList}
 use Rattle.cvc_flat.specs.Instances.{same_names}
 use Rattle.cvc_flat.specs.Nets.{Path, names_of, net_of}
-use Rattle.cvc_flat.specs.Resolving.{IsChild, own_name}
-use Rattle.cvc_flat.specs.Tables.{IsTree, Way, link_at, names_on, no_row, path_of, way_at, way_in, ways_of}
+use Rattle.cvc_flat.specs.Resolving.{IsChild}
+use Rattle.cvc_flat.specs.Tables.{IsTree, link_at, names_on, no_row, path_of, way_at, way_in, ways_of}
 use Rattle.cvc_flat.proofs.Ways.{length_ways, way_step, way_top}
 
 -- ## Lists of names
@@ -81,13 +81,13 @@ module _ (names : List (List ℕ)) (parts : List InstancePart) (rows : List Inst
       let more : 1 + j ≡ suc j = omega arith in
       let at : way_at (ways_of rows) (suc j) ≡ way_in (ways_of rows) (get_or rows j no_row) = ap (way_at (ways_of rows)) one ∙ step in
       let same : (k : ℕ) → k < length rows → same_names (on (suc j)) (names_of (get_or f.instances k [])) ≡ true → j ≡ k =
-        λ k b e. let q : suc j ≡ 1 + k = apart (suc j) (1 + k) h (omega arith) (names_true (on (suc j)) (names_of (get_or f.instances k [])) e ∙ ap names_of (instance_is k b)) in omega arith in
+      λ k b e. let q : suc j ≡ 1 + k = apart (suc j) (1 + k) h (omega arith) (names_true (on (suc j)) (names_of (get_or f.instances k [])) e ∙ ap names_of (instance_is k b)) in omega arith in
       let found : find (λ (p : Path). same_names (on (suc j)) (names_of p)) f.instances ≡ Some (get_or f.instances j []) =
-        find_at_place (λ (p : Path). same_names (on (suc j)) (names_of p)) f.instances j [] (omega (arith, count))
-          (ap (λ p. same_names (on (suc j)) (names_of p)) (instance_is j (omega arith) ∙ ap path more) ∙ names_same (on (suc j)))
-          (λ k b. no_false (same_names (on (suc j)) (names_of (get_or f.instances k []))) (λ e. let q : j ≡ k = same k (omega arith) e in omega arith)) in
+      find_at_place (λ (p : Path). same_names (on (suc j)) (names_of p)) f.instances j [] (omega (arith, count))
+      (ap (λ p. same_names (on (suc j)) (names_of p)) (instance_is j (omega arith) ∙ ap path more) ∙ names_same (on (suc j)))
+      (λ k b. no_false (same_names (on (suc j)) (names_of (get_or f.instances k []))) (λ e. let q : j ≡ k = same k (omega arith) e in omega arith)) in
       let shape : path_named f (on (suc j)) ≡ find (λ (p : Path). same_names (on (suc j)) (names_of p)) f.instances =
-        ap (λ w. path_named f (names_on names parts w)) at ∙ ap (λ w. find (λ (p : Path). same_names (names_on names parts w) (names_of p)) f.instances) (sym at) in
+      ap (λ w. path_named f (names_on names parts w)) at ∙ ap (λ w. find (λ (p : Path). same_names (names_on names parts w) (names_of p)) f.instances) (sym at) in
       shape ∙ found ∙ ap Some (instance_is j (omega arith) ∙ ap path more)
 
   -- names that no instance has
@@ -97,8 +97,8 @@ module _ (names : List (List ℕ)) (parts : List InstancePart) (rows : List Inst
   unnamed : (own : List ℕ) (up : List (List ℕ)) → NoneHas (own ∷ up) → path_named f (own ∷ up) ≡ None
   unnamed own up none =
       find_none (λ (p : Path). same_names (own ∷ up) (names_of p)) f.instances []
-        (λ k b. no_false (same_names (own ∷ up) (names_of (get_or f.instances k [])))
-          (λ e. none (1 + k) (omega (arith, count)) (sym (names_true (own ∷ up) (names_of (get_or f.instances k [])) e ∙ ap names_of (instance_is k (omega (arith, count)))))))
+      (λ k b. no_false (same_names (own ∷ up) (names_of (get_or f.instances k [])))
+      (λ e. none (1 + k) (omega (arith, count)) (sym (names_true (own ∷ up) (names_of (get_or f.instances k [])) e ∙ ap names_of (instance_is k (omega (arith, count)))))))
 
   head_of : List ℕ → List (List ℕ) → List ℕ
   head_of d [] = d

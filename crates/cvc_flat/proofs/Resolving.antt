@@ -1,5 +1,5 @@
 -- The net of a name by numbers.
-use Rattle.std.proofs.Common.{◌≡◌, ℕ, zero, suc, ◌+◌, ◌-◌, ◌<◌, ◌≤◌, ◌==◌, ◌||◌, Bool, true, false, List, [], ◌∷◌, ◌++◌, length, map, take, get_or, refl, sym, ap, subst, ◌∙◌, arith, eqb, ltb}
+use Rattle.std.proofs.Common.{◌≡◌, ℕ, zero, suc, ◌+◌, ◌-◌, ◌<◌, ◌≤◌, ◌==◌, ◌||◌, Bool, true, false, List, [], ◌∷◌, length, map, take, get_or, refl, sym, ap, subst, ◌∙◌, arith, ltb}
 use Rattle.std.specs.Prelude.{All, Option, Some, None, find, if◌then◌else◌}
 use Rattle.std.specs.Option.{option_map, option_map_or}
 use Rattle.std.specs.Str.{bytes_eq}
@@ -12,11 +12,10 @@ use Rattle.cvc_cdl.specs.Building.{is_among}
 use Rattle.cvc_flat.specs.declared.rows.Connection.{Connection}
 use Rattle.cvc_flat.specs.declared.rows.InstancePart.{InstancePart}
 use Rattle.cvc_flat.specs.declared.rows.InstanceRow.{InstanceRow}
-use Rattle.cvc_flat.specs.declared.rows.NetRow.{NetRow}
-use Rattle.cvc_flat.specs.Nets.{Link, Net, Path, connected, name_of_link, names_of, net_of, net_within, top_net}
+use Rattle.cvc_flat.specs.Nets.{Link, Net, connected, name_of_link, names_of, net_of, net_within, top_net}
 use Rattle.cvc_flat.specs.Names.{AreApart}
-use Rattle.cvc_flat.specs.Resolving.{AreNames, IsNetOf, net_beside, own_name}
-use Rattle.cvc_flat.specs.Tables.{IsPart, link_at, link_of, net_at, no_link, no_row, pair_of, path_of, text, way_at, ways_of}
+use Rattle.cvc_flat.specs.Resolving.{AreNames, net_beside, own_name}
+use Rattle.cvc_flat.specs.Tables.{IsPart, link_at, no_row, pair_of, path_of, text}
 use borrow.Author.Count.{below_more}
 use Rattle.cvc_flat.proofs.Lists.{all_head, all_tail}
 use Rattle.cvc_flat.proofs.Writing.{link_is}
@@ -31,8 +30,8 @@ bool_same false false f g = refl
 pub same_text : (names : List (List ℕ)) → AreApart names → (i j : ℕ) → i < length names → j < length names → bytes_eq (text names i) (text names j) ≡ (i == j)
 same_text names apart i j a b =
     bool_same (bytes_eq (text names i) (text names j)) (i == j)
-      (λ e. eq-eqb i j (apart i j a b ((bytes_decides (text names i) (text names j)).0 e)))
-      (λ e. (bytes_decides (text names i) (text names j)).1 (ap (text names) (eqb-true i j e)))
+    (λ e. eq-eqb i j (apart i j a b ((bytes_decides (text names i) (text names j)).0 e)))
+    (λ e. (bytes_decides (text names i) (text names j)).1 (ap (text names) (eqb-true i j e)))
 
 pub among_place : (xs : List (List ℕ)) (t : List ℕ) → is_among xs t ≡ true → (i : ℕ) × (i < length xs) × (t ≡ get_or xs i [])
 among_place [] t e = absurd (false≢true e)
@@ -56,11 +55,11 @@ place_among (x ∷ xs) t (suc i) h e = by (bytes_eq t x) (place_among xs t i (om
 pub global_is : (names : List (List ℕ)) (g k : ℕ) → AreApart names → g ≤ length names → k < length names → is_among (take g names) (text names k) ≡ ltb k g
 global_is names g k apart inside h =
     bool_same (is_among (take g names) (text names k)) (ltb k g)
-      (λ e. let w = among_place (take g names) (text names k) e in
-        let below : w.0 < g = subst (λ n. w.0 < n) (length-take-le g names inside) w.1 in
-        lt-ltb k g (subst (λ n. n < g) (sym (apart k w.0 h (omega (arith, below)) (w.2 ∙ get_or-take g names w.0 [] below))) below))
-      (λ e. let below : k < g = ltb-true k g e in
-        place_among (take g names) (text names k) k (subst (λ n. k < n) (sym (length-take-le g names inside)) below) (sym (get_or-take g names k [] below)))
+    (λ e. let w = among_place (take g names) (text names k) e in
+    let below : w.0 < g = subst (λ n. w.0 < n) (length-take-le g names inside) w.1 in
+    lt-ltb k g (subst (λ n. n < g) (sym (apart k w.0 h (omega (arith, below)) (w.2 ∙ get_or-take g names w.0 [] below))) below))
+    (λ e. let below : k < g = ltb-true k g e in
+    place_among (take g names) (text names k) k (subst (λ n. k < n) (sym (length-take-le g names inside)) below) (sym (get_or-take g names k [] below)))
 
 -- ## Connections
 
@@ -136,8 +135,8 @@ module _ (names : List (List ℕ)) (g : ℕ) (parts : List InstancePart) (are : 
   up_step card up k part h above inside e =
       choose_not (is_among globals (text names k)) (ltb k g) (top_net (text names k)) _ (global_is names g k are.apart are.below h) (not_below k above)
       ∙ ap (λ (o : Option (List ℕ)). option_map_or (net_of globals (path_of names parts up)) o (net_within (names_of (path_of names parts (card ∷ up))) (text names k)))
-        (ap (λ (l : Link). connected l (text names k)) (link_is names parts card part inside e)
-         ∙ connected_is names are.apart part.connections.items k h (subst (IsPart names) (sym e) (All-get_or (IsPart names) parts card part inside are.sound)).1)
+      (ap (λ (l : Link). connected l (text names k)) (link_is names parts card part inside e)
+      ∙ connected_is names are.apart part.connections.items k h (subst (IsPart names) (sym e) (All-get_or (IsPart names) parts card part inside are.sound)).1)
 
   pub connected_step : (card : ℕ) (up : List ℕ) (k net : ℕ) (part : InstancePart) → k < length names → g ≤ k → card < length parts → part ≡ get_or parts card part
       → net_beside part.connections.items k ≡ Some net → net_there (card ∷ up) k ≡ net_there up net

@@ -1,5 +1,5 @@
 -- Texts stripped from their ends.
-use Rattle.std.proofs.Common.{◌≡◌, ℕ, ◌+◌, ◌-◌, ◌==◌, Bool, true, false, List, [], ◌∷◌, ◌++◌, length, take, drop, refl, sym, ap, subst, ◌∙◌, append_assoc, length-append, arith}
+use Rattle.std.proofs.Common.{◌≡◌, ℕ, ◌-◌, ◌==◌, Bool, true, false, List, [], ◌∷◌, ◌++◌, length, take, drop, refl, sym, ap, ◌∙◌, append_assoc, length-append, arith}
 use Rattle.std.specs.Prelude.{codes}
 use Rattle.std.specs.Str.{bytes_eq}
 use Rattle.std.specs.Cmp.Lexicographic.{bytes_decides}
@@ -15,8 +15,8 @@ pub strip_yes : (rest front s p : List ℕ) → bytes_eq (drop (length rest - le
 strip_yes rest front s p ends is =
     let whole : rest ≡ front ++ s = sym (take-append-drop (length rest - length s) rest) ∙ ap (λ (x : List ℕ). x ++ drop (length rest - length s) rest) (sym is) ∙ ap (λ (x : List ℕ). front ++ x) ((bytes_decides (drop (length rest - length s) rest) s).0 ends) in
     bool_same (bytes_eq rest (p ++ s)) (bytes_eq front p)
-      (λ e. (bytes_decides front p).1 (append_cancel_right front p s (sym whole ∙ (bytes_decides rest (p ++ s)).0 e)))
-      (λ e. (bytes_decides rest (p ++ s)).1 (whole ∙ ap (λ (x : List ℕ). x ++ s) ((bytes_decides front p).0 e)))
+    (λ e. (bytes_decides front p).1 (append_cancel_right front p s (sym whole ∙ (bytes_decides rest (p ++ s)).0 e)))
+    (λ e. (bytes_decides rest (p ++ s)).1 (whole ∙ ap (λ (x : List ℕ). x ++ s) ((bytes_decides front p).0 e)))
 
 pub strip_no : (rest s p : List ℕ) → bytes_eq (drop (length rest - length s) rest) s ≡ false → bytes_eq rest (p ++ s) ≡ false
 strip_no rest s p ends = by (bytes_eq rest (p ++ s)) refl

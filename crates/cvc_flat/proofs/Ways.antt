@@ -1,12 +1,12 @@
 -- The ways to instances, row by row.
-use Rattle.std.proofs.Common.{◌≡◌, ℕ, zero, suc, ◌+◌, ◌-◌, ◌<◌, ◌≤◌, List, [], ◌∷◌, ◌++◌, length, get_or, refl, sym, ap, subst, ◌∙◌, append_assoc, length-append, arith, rules}
+use Rattle.std.proofs.Common.{◌≡◌, ℕ, zero, suc, ◌+◌, ◌<◌, ◌≤◌, List, [], ◌∷◌, ◌++◌, length, get_or, refl, sym, ap, ◌∙◌, length-append, arith}
 use Rattle.std.specs.Prelude.{All}
 use Rattle.std.proofs.Math.Seq.{get_or-append_seam}
 use Rattle.std.proofs.lemmas.List.{get_or_append_left}
 use Rattle.std.proofs.lemmas.List.Elements.{All-append}
 use Rattle.cvc_flat.specs.declared.rows.InstanceRow.{InstanceRow}
 use Rattle.cvc_flat.proofs.Lists.{all_cons, all_head, all_one, all_tail}
-use Rattle.cvc_flat.specs.Tables.{Way, IsTree, no_row, way_at, way_in, ways_from, ways_of}
+use Rattle.cvc_flat.specs.Tables.{Way, no_row, way_at, way_in, ways_from, ways_of}
 
 -- what is known stays in its place
 pub known_stays : (known : List Way) (rows : List InstanceRow) (i : ℕ) → i < length known → way_at (ways_from known rows) i ≡ way_at known i

@@ -1,5 +1,5 @@
--- Nets by their printed names. The first net of the list that is printed so is found. Where there is none, the text is split at each `/`: all pieces but the
--- last are names of instances from the top on, and the last is a name there, whose net is found if it is in the list.
+-- Nets by their printed names. The first net of the list that is printed so is found. Where there is none, the text is split at each `/`: all
+-- pieces but the last are names of instances from the top on, and the last is a name there, whose net is found if it is in the list.
 use Rattle.std.specs.Prelude.{ℕ, ◌==◌, Bool, List, [], ◌∷◌, Option, Some, None, find, position}
 use Rattle.std.specs.List.{slice_split}
 use Rattle.std.specs.Option.{option_map, option_and_then, option_or}

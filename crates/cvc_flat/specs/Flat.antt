@@ -1,6 +1,7 @@
--- The flat list of a netlist: its nets and its devices, in the order of the walk, or the first fault. The nets are the globals, the ports of the top, and
--- the nets of the devices' pins, each where it first comes. What a flat list holds has no netlist behind it: a device has its parts, its pins by their nets'
--- numbers and its resolved parameters, and of the instances their paths are kept, by which a name in any of them finds its net.
+-- The flat list of a netlist: its nets and its devices, in the order of the walk, or the first fault. The nets are the globals, the ports of the
+-- top, and the nets of the devices' pins, each where it first comes. What a flat list holds has no netlist behind it: a device has its parts, its
+-- pins by their nets' numbers and its resolved parameters, and of the instances their paths are kept, by which a name in any of them finds its
+-- net.
 use Rattle.std.specs.Prelude.{ℕ, suc, Bool, nat_le, nat_lt, List, [], ◌∷◌, ◌++◌, length, map, Option, Some, None, Result, if◌then◌else◌}
 use Rattle.std.specs.List.{list_any, flat_map, filter_map, position_or_len}
 use Rattle.std.specs.Option.{option_map, unwrap_or}

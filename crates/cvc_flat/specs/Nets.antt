@@ -1,6 +1,6 @@
--- Nets. A net is a name in an instance. The net of a name is found by walking up: a global name is the global net, wherever it is met; else a name that is
--- connected, as a port of the instance's cell, is the net, in the parent, of what it is connected to; else it is a net of the instance itself. What counts of
--- an instance is its path: for each instance on the way its name and its connections.
+-- Nets. A net is a name in an instance. The net of a name is found by walking up: a global name is the global net, wherever it is met; else a name
+-- that is connected, as a port of the instance's cell, is the net, in the parent, of what it is connected to; else it is a net of the instance
+-- itself. What counts of an instance is its path: for each instance on the way its name and its connections.
 use Rattle.std.specs.Prelude.{ℕ, Bool, ◌&&◌, List, [], ◌∷◌, map, Option, find, if◌then◌else◌}
 use Rattle.std.specs.Option.{option_map, option_map_or}
 use Rattle.std.specs.Str.{bytes_eq}

@@ -1,5 +1,5 @@
--- Loops of parameters. A text comes by places as it is followed: a place is an instance or the main level, one of its lists and a name without regard to case.
--- There is a loop where a place comes twice, which shows within as many steps as there are pairs to pass, and one more.
+-- Loops of parameters. A text comes by places as it is followed: a place is an instance or the main level, one of its lists and a name without
+-- regard to case. There is a loop where a place comes twice, which shows within as many steps as there are pairs to pass, and one more.
 use Rattle.std.specs.Prelude.{ℕ, zero, suc, ◌==◌, Bool, false, ◌&&◌, ◌||◌, List, [], ◌∷◌, is_some, if◌then◌else◌}
 use Rattle.std.specs.List.{list_any}
 use Rattle.std.specs.Option.{option_map_or}

@@ -20,13 +20,15 @@ pub record AreNames (names : List (List ℕ)) (globals : ℕ) (parts : List Inst
   pub sound : All (IsPart names) parts
 
 -- the row is the net of the name in the instance
-pub record IsNetOf (names : List (List ℕ)) (globals : ℕ) (parts : List InstancePart) (rows : List InstanceRow) (instance name : ℕ) (row : NetRow) : Type 0 where
-  pub resolved : net_at names parts (ways_of rows) row ≡ net_of (take globals names) (path_of names parts (way_at (ways_of rows) instance)) (text names name)
+pub record IsNetOf (names : List (List ℕ)) (globals : ℕ) (parts : List InstancePart) (rows : List InstanceRow)
+    (instance name : ℕ) (row : NetRow) : Type 0 where
+  pub resolved : net_at names parts (ways_of rows) row
+      ≡ net_of (take globals names) (path_of names parts (way_at (ways_of rows) instance)) (text names name)
   pub named : row.name < length names
 
 -- the same instance and the same name
 abbrev pub is_row : NetRow → NetRow → Bool
-is_row a b = (b.instance == a.instance) && (b.name == a.name)
+is_row a b = (a.instance == b.instance) && (a.name == b.name)
 
 -- the name of an instance by its number, which is not that of the top
 abbrev pub own_name : List (List ℕ) → List InstancePart → List InstanceRow → ℕ → List ℕ
@@ -40,4 +42,5 @@ pub record IsChild (names : List (List ℕ)) (parts : List InstancePart) (rows :
   pub named : own_name names parts rows i ≡ name
 
 abbrev pub ChildOf : List (List ℕ) → List InstancePart → List InstanceRow → ℕ → List ℕ → Option ℕ → Type 0
-ChildOf names parts rows up name found = MatchOption found ((i : ℕ) → IsChild names parts rows up name i → ⊥) (λ i. IsChild names parts rows up name i)
+ChildOf names parts rows up name found =
+    MatchOption found ((i : ℕ) → IsChild names parts rows up name i → ⊥) (λ i. IsChild names parts rows up name i)

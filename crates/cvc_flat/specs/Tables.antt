@@ -1,6 +1,6 @@
--- A flat list as tables by numbers. Names stand once and have numbers, the global ones first. An instance has its parent's number, which is less than its
--- own, and the number of its card; so the ways to all instances follow from the first row on.
-use Rattle.std.specs.Prelude.{◌≡◌, ℕ, ◌+◌, ◌^◌, ◌<◌, ◌≤◌, List, [], ◌∷◌, ◌++◌, map, take, drop, length, Option, All, slice_index_or}
+-- A flat list as tables by numbers. Names stand once and have numbers, the global ones first. An instance has its parent's number, which is less
+-- than its own, and the number of its card; so the ways to all instances follow from the first row on.
+use Rattle.std.specs.Prelude.{◌≡◌, ℕ, ◌^◌, ◌<◌, ◌≤◌, List, [], ◌∷◌, ◌++◌, map, take, drop, length, Option, All, slice_index_or}
 use Rattle.cvc_base.specs.declared.ids.NetId.{NetId}
 use Rattle.cvc_base.specs.declared.param.Pair.{Pair}
 use Rattle.cvc_card.specs.declared.card.Letter.TheVariants.{M}
@@ -14,7 +14,7 @@ use Rattle.cvc_flat.specs.declared.rows.InstanceRow.{InstanceRow}
 use Rattle.cvc_flat.specs.declared.rows.NetRow.{NetRow}
 use Rattle.cvc_flat.specs.Names.{AreApart}
 use Rattle.cvc_flat.specs.Nets.{Link, Net, Path, names_of, net_within}
-use Rattle.cvc_flat.specs.Flat.{FlatDevice, FlatList}
+use Rattle.cvc_flat.specs.Flat.{FlatDevice}
 use Rattle.cvc_flat.specs.Held.{Held}
 
 pub record Tables : Type 0 where
@@ -117,8 +117,11 @@ held_of t = record {
 
 -- ## Sound tables
 
+abbrev pub AreConnections : List (List ℕ) → List Connection → Type 0
+AreConnections names cs = All (λ (c : Connection). (c.port < length names) × (c.net < length names)) cs
+
 abbrev pub IsPart : List (List ℕ) → InstancePart → Type 0
-IsPart names p = (p.name < length names) × All (λ (c : Connection). (c.port < length names) × (c.net < length names)) p.connections.items
+IsPart names p = (p.name < length names) × AreConnections names p.connections.items
 
 abbrev pub no_row : InstanceRow
 no_row = record { parent = 0; card = 0 }
@@ -138,7 +141,9 @@ IsNet t r = (r.instance ≤ length t.instances) × (r.name < length t.names)
 
 -- no two instances have one way by names
 abbrev pub AreWaysApart : List (List ℕ) → List InstancePart → List InstanceRow → Type 0
-AreWaysApart names parts rows = (i j : ℕ) → i ≤ length rows → j ≤ length rows → names_on names parts (way_at (ways_of rows) i) ≡ names_on names parts (way_at (ways_of rows) j) → i ≡ j
+AreWaysApart names parts rows =
+    (i j : ℕ) → i ≤ length rows → j ≤ length rows
+    → names_on names parts (way_at (ways_of rows) i) ≡ names_on names parts (way_at (ways_of rows) j) → i ≡ j
 
 pub record IsSound (t : Tables) : Type 0 where
   pub names : AreApart t.names

@@ -12,7 +12,13 @@ use crate::resolve::net_row;
 use crate::rows::{InstancePart, InstanceRow, NetRow};
 
 // Whether a net is printed so.
-fn is_printed(names: &Names, parts: &[InstancePart], instances: &[InstanceRow], row: NetRow, text: &[u8]) -> bool
+fn is_printed(
+    names: &Names,
+    parts: &[InstancePart],
+    instances: &[InstanceRow],
+    row: NetRow,
+    text: &[u8],
+) -> bool
     requires tree { IsTree instances.now }
     requires cards { All (λ r. r.card < length parts.now) instances.now }
     requires parts { All (λ p. p.name < length names.now) parts.now }
@@ -41,7 +47,13 @@ fn is_printed(names: &Names, parts: &[InstancePart], instances: &[InstanceRow], 
 }
 
 // The first net that is printed so.
-pub(crate) fn first_printed(names: &Names, parts: &[InstancePart], instances: &[InstanceRow], nets: &[NetRow], text: &[u8]) -> Option<usize>
+pub(crate) fn first_printed(
+    names: &Names,
+    parts: &[InstancePart],
+    instances: &[InstanceRow],
+    nets: &[NetRow],
+    text: &[u8],
+) -> Option<usize>
     requires tree { IsTree instances.now }
     requires cards { All (λ r. r.card < length parts.now) instances.now }
     requires parts { All (λ p. p.name < length names.now) parts.now }
@@ -58,7 +70,13 @@ pub(crate) fn first_printed(names: &Names, parts: &[InstancePart], instances: &[
 }
 
 // The instance of a name in an instance.
-fn child_of(names: &Names, parts: &[InstancePart], instances: &[InstanceRow], up: u32, name: &[u8]) -> Option<u32>
+fn child_of(
+    names: &Names,
+    parts: &[InstancePart],
+    instances: &[InstanceRow],
+    up: u32,
+    name: &[u8],
+) -> Option<u32>
     requires cards { All (λ r. r.card < length parts.now) instances.now }
     requires parts { All (λ p. p.name < length names.now) parts.now }
     requires limit { length instances.now ≤ 1000000 }
@@ -88,7 +106,7 @@ fn place_of_row(nets: &[NetRow], row: NetRow) -> Option<usize>
     ensures place { result ≡ position (is_row row) nets.now }
 {
     nets.iter()
-        .position(|net| net.instance == row.instance && net.name == row.name)
+        .position(|net| row.instance == net.instance && row.name == net.name)
 }
 
 // The net that the pieces of a text name: instances from the top on, and a name there.

@@ -153,7 +153,14 @@ impl Flat {
     {
         match first_printed(&self.names, &self.parts, &self.instances, &self.nets, name) {
             Some(place) => Some(place),
-            None => first_named(self.globals, &self.names, &self.parts, &self.instances, &self.nets, name),
+            None => first_named(
+                self.globals,
+                &self.names,
+                &self.parts,
+                &self.instances,
+                &self.nets,
+                name,
+            ),
         }
     }
 
@@ -175,7 +182,14 @@ impl Flat {
     {
         let row = &self.devices[d.0 as usize];
         let name = self.cards[row.card as usize].name;
-        write_path(&self.names, &self.parts, &self.instances, row.instance, name, sink)
+        write_path(
+            &self.names,
+            &self.parts,
+            &self.instances,
+            row.instance,
+            name,
+            sink,
+        )
     }
 
     /// Writes the printed name of a net: the names of the instances on the way to it and its own, joined by `/`. It takes no memory. Where
@@ -186,6 +200,13 @@ impl Flat {
         ensures written { WritesText (K.written sink.old) (K.written sink.new) result (printed_net (net self.now.list n.0)) }
     {
         let row = &self.nets[n.0 as usize];
-        write_path(&self.names, &self.parts, &self.instances, row.instance, row.name, sink)
+        write_path(
+            &self.names,
+            &self.parts,
+            &self.instances,
+            row.instance,
+            row.name,
+            sink,
+        )
     }
 }

@@ -49,7 +49,7 @@ pub(crate) struct Group {
 }
 
 // A net: an instance, and the number of a name there.
-#[derive(Clone, Copy, Debug)]
+#[derive(Clone, Copy, Debug, PartialEq, Eq, Hash)]
 pub(crate) struct NetRow {
     pub instance: u32,
     pub name: u32,

@@ -1,13 +1,11 @@
-use Rattle.std.proofs.Common.{◌≡◌, ℕ, ◌+◌, ◌-◌, ◌<◌, ◌≤◌, List, [], ◌∷◌, length, map, take, drop, get_or, sym, ap, subst, ◌∙◌, arith}
-use Rattle.std.specs.Prelude.{All, Option, None, Some}
+use Rattle.std.proofs.Common.{◌≡◌, ℕ, ◌+◌, ◌-◌, ◌<◌, List, [], length, map, take, drop, sym, ap, ◌∙◌, arith}
+use Rattle.std.specs.Prelude.{Option, None, Some}
 use Rattle.std.specs.Option.{option_and_then, option_map}
 use Rattle.std.proofs.lemmas.List.{length-drop, take_all}
-use Rattle.cvc_flat.specs.FindNet.{net_named, number_among, path_named, pieces}
-use Rattle.cvc_flat.specs.Flat.{FlatList}
+use Rattle.cvc_flat.specs.FindNet.{net_named, number_among, pieces}
 use Rattle.cvc_flat.specs.Names.{place_of}
 use Rattle.cvc_flat.specs.Nets.{Net, Path, net_of}
-use Rattle.cvc_flat.specs.Resolving.{IsChild}
-use Rattle.cvc_flat.specs.Tables.{Way, names_on, net_at, path_of, text, way_at, ways_of}
+use Rattle.cvc_flat.specs.Tables.{Way, names_on, net_at, path_of, way_at, ways_of}
 use Rattle.cvc_flat.proofs.Finding.{last_step, not_listed, number_row, own_net, slash_step}
 use Rattle.cvc_flat.proofs.Lists.{place_below, text_at_place}
 use Rattle.cvc_flat.proofs.Naming.{child_names, named_here, no_child, nothing_behind}
@@ -29,9 +27,9 @@ returns-in_err-up-clause-place c = λ f g is.
     let place = c.in-Some.place in
     let on : List (List ℕ) = names_on names parts (way_at (ways_of rows) c.loop-place.up) in
     let whole : net_named f [] (pieces c.args.text.now) ≡ None =
-      sym (c.loop-place.invariant.named f g is) ∙ slash_step f on rest place (sym c.first_slash.ensures.place ∙ c.in-Some.is)
-      ∙ nothing_behind names parts rows c.requires.tree c.requires.ways f is (take place rest) on (pieces (drop (place + 1) rest))
-        (no_child names parts rows c.requires.tree c.requires.ways f is c.loop-place.up (take place rest) c.loop-place.invariant.inside c.in_err-up.ensures) in
+    sym (c.loop-place.invariant.named f g is) ∙ slash_step f on rest place (sym c.first_slash.ensures.place ∙ c.in-Some.is)
+    ∙ nothing_behind names parts rows c.requires.tree c.requires.ways f is (take place rest) on (pieces (drop (place + 1) rest))
+    (no_child names parts rows c.requires.tree c.requires.ways f is c.loop-place.up (take place rest) c.loop-place.invariant.inside c.in_err-up.ensures) in
     c.from_residual.ensures ∙ sym (ap (option_and_then (number_among (map (net_at names parts (ways_of rows)) c.args.nets.now))) whole)
 
 pub loop-place-preserved : goal.loop-place-preserved
@@ -44,14 +42,14 @@ loop-place-preserved c =
     let on : List (List ℕ) = names_on names parts (way_at (ways_of rows) c.loop-place.up) in
     let whole : take (length rest - (place + 1)) (drop (place + 1) rest) ≡ drop (place + 1) rest = take_all (length rest - (place + 1)) (drop (place + 1) rest) (omega (arith, length-drop (place + 1) rest)) in
     record {
-  inside = c.in_ok-up.ensures.inside;
-  named = λ f g is.
-    ap (λ (r : List ℕ). net_named f (names_on names parts (way_at (ways_of rows) c.in_ok-up.up)) (pieces r)) whole
-    ∙ ap (λ (ns : List (List ℕ)). net_named f ns (pieces (drop (place + 1) rest)))
-      (child_names names parts rows c.requires.tree c.requires.ways f is c.loop-place.up c.in_ok-up.up (take place rest) c.in_ok-up.ensures)
-    ∙ sym (slash_step f on rest place (sym c.first_slash.ensures.place ∙ c.in-Some.is))
-    ∙ c.loop-place.invariant.named f g is;
-}
+      inside = c.in_ok-up.ensures.inside;
+      named = λ f g is.
+          ap (λ (r : List ℕ). net_named f (names_on names parts (way_at (ways_of rows) c.in_ok-up.up)) (pieces r)) whole
+          ∙ ap (λ (ns : List (List ℕ)). net_named f ns (pieces (drop (place + 1) rest)))
+          (child_names names parts rows c.requires.tree c.requires.ways f is c.loop-place.up c.in_ok-up.up (take place rest) c.in_ok-up.ensures)
+          ∙ sym (slash_step f on rest place (sym c.first_slash.ensures.place ∙ c.in-Some.is))
+          ∙ c.loop-place.invariant.named f g is;
+    }
 
 pub returns-in_err-name-clause-place : goal.returns-in_err-name-clause-place
 returns-in_err-name-clause-place c = λ f g is.
@@ -64,12 +62,12 @@ returns-in_err-name-clause-place c = λ f g is.
     let unknown : place_of names rest ≡ None = sym c.find.ensures ∙ c.in_err-name.was in
     let number : Net → Option ℕ = number_among (map (net_at names parts (ways_of rows)) c.args.nets.now) in
     let whole : net_named f [] (pieces c.args.text.now) ≡ Some (net_of f.globals (path_of names parts way) rest) =
-      sym (c.loop-place.invariant.named f g is) ∙ last_step f (names_on names parts way) rest (sym c.first_slash.ensures.place ∙ c.in_default.is)
-      ∙ ap (option_map (λ (p : Path). net_of f.globals p rest)) (named_here names parts rows c.requires.tree c.requires.ways f is up c.loop-place.invariant.inside) in
+    sym (c.loop-place.invariant.named f g is) ∙ last_step f (names_on names parts way) rest (sym c.first_slash.ensures.place ∙ c.in_default.is)
+    ∙ ap (option_map (λ (p : Path). net_of f.globals p rest)) (named_here names parts rows c.requires.tree c.requires.ways f is up c.loop-place.invariant.inside) in
     c.from_residual-in_err-name.ensures
     ∙ sym (ap (option_and_then number) whole ∙ ap (λ gs. number (net_of gs (path_of names parts way) rest)) g
-      ∙ ap number (own_net names parts rows c.requires.names.apart c.requires.ways rest unknown c.args.globals c.requires.names way (all_on_way (λ k. k < length parts) rows up c.requires.cards))
-      ∙ not_listed names parts rows c.requires.names.apart c.requires.ways rest unknown c.args.nets.now (names_on names parts way) c.requires.nets)
+    ∙ ap number (own_net names parts rows c.requires.names.apart c.requires.ways rest unknown c.args.globals c.requires.names way (all_on_way (λ k. k < length parts) rows up c.requires.cards))
+    ∙ not_listed names parts rows c.requires.names.apart c.requires.ways rest unknown c.args.nets.now (names_on names parts way) c.requires.nets)
 
 pub returns-clause-place : goal.returns-clause-place
 returns-clause-place c = λ f g is.
@@ -83,8 +81,8 @@ returns-clause-place c = λ f g is.
     let below : c.in_ok-name.name < length names = place_below names rest c.in_ok-name.name found in
     let number : Net → Option ℕ = number_among (map (net_at names parts (ways_of rows)) c.args.nets.now) in
     let whole : net_named f [] (pieces c.args.text.now) ≡ Some (net_of f.globals (path_of names parts way) rest) =
-      sym (c.loop-place.invariant.named f g is) ∙ last_step f (names_on names parts way) rest (sym c.first_slash.ensures.place ∙ c.in_default.is)
-      ∙ ap (option_map (λ (p : Path). net_of f.globals p rest)) (named_here names parts rows c.requires.tree c.requires.ways f is up c.loop-place.invariant.inside) in
+    sym (c.loop-place.invariant.named f g is) ∙ last_step f (names_on names parts way) rest (sym c.first_slash.ensures.place ∙ c.in_default.is)
+    ∙ ap (option_map (λ (p : Path). net_of f.globals p rest)) (named_here names parts rows c.requires.tree c.requires.ways f is up c.loop-place.invariant.inside) in
     let net = c.net_row-row.ensures.net names c.requires.names below in
     c.place_of_row.ensures.place
     ∙ sym (number_row names parts rows c.requires.names.apart c.requires.ways c.args.nets.now c.net_row-row.result (c.net_row-row.ensures.inside, net.named) c.requires.nets)

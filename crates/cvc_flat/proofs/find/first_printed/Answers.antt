@@ -1,5 +1,4 @@
-use Rattle.std.proofs.Common.{◌≡◌, ℕ, ◌<◌, true, List, [], length, map, take, get_or, sym, ap, ◌∙◌, arith}
-use Rattle.std.specs.Prelude.{None}
+use Rattle.std.proofs.Common.{◌≡◌, ◌<◌, true, List, [], length, map, get_or, sym, ap, ◌∙◌, arith}
 use Rattle.std.specs.List.{take-map}
 use Rattle.std.specs.Str.{bytes_eq}
 use Rattle.std.proofs.lemmas.List.{get_or-map, length-map}
@@ -22,4 +21,4 @@ returns-then-is_printed-clause-place c =
     let inside : k < length nets = c.loop-place-test.true in
     let here : bytes_eq text (printed_net (get_or (map f nets) k (top_net []))) ≡ true = ap (λ (n : Net). bytes_eq text (printed_net n)) (get_or-map f nets k no_net (top_net []) inside) ∙ sym c.is_printed.ensures ∙ c.if-is_printed.true in
     sym (found_here (λ (n : Net). bytes_eq text (printed_net n)) (map f nets) k (top_net []) (omega (arith, length-map nets f))
-      (ap (λ (l : List Net). number_printed l text) (take-map f k nets) ∙ c.loop-place.invariant) here)
+    (ap (λ (l : List Net). number_printed l text) (take-map f k nets) ∙ c.loop-place.invariant) here)

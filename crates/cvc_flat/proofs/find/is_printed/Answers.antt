@@ -1,4 +1,4 @@
-use Rattle.std.proofs.Common.{◌≡◌, ℕ, ◌+◌, ◌-◌, ◌<◌, ◌≤◌, ◌++◌, List, [], length, get_or, sym, ap, ◌∙◌, arith}
+use Rattle.std.proofs.Common.{◌≡◌, ℕ, ◌+◌, ◌-◌, ◌<◌, ◌++◌, List, [], length, get_or, sym, ap, ◌∙◌, arith}
 use Rattle.std.specs.Prelude.{codes}
 use Rattle.std.specs.Str.{bytes_eq}
 use Rattle.cvc_flat.specs.Instances.{printed}
@@ -18,10 +18,10 @@ pub loop-at-init : goal.loop-at-init
 loop-at-init c =
     let on : List (List ℕ) = names_on c.args.names.now c.args.parts.now (way_at (ways_of c.args.instances.now) c.args.row.instance) in
     record {
-  inside = c.requires.inside;
-  same = ap (bytes_eq c.args.text.now) (printed_split on _ ∙ ap (λ (s : List ℕ). printed on [] ++ s) (sym c.get.ensures))
-    ∙ strip_yes c.args.text.now c.in-Some.front.now c.get.result.now (printed on []) c.in-Some.ensures.cases.0 c.in-Some.ensures.cases.1;
-}
+      inside = c.requires.inside;
+      same = ap (bytes_eq c.args.text.now) (printed_split on _ ∙ ap (λ (s : List ℕ). printed on [] ++ s) (sym c.get.ensures))
+          ∙ strip_yes c.args.text.now c.in-Some.front.now c.get.result.now (printed on []) c.in-Some.ensures.cases.0 c.in-Some.ensures.cases.1;
+    }
 
 pub returns-in_default-strip_suffix : goal.returns-in_default-strip_suffix
 returns-in_default-strip_suffix c =
@@ -51,9 +51,9 @@ returns-in_default-strip_suffix-2 c =
     let own : List ℕ = name_of_link (link_at names parts row.card) in
     let is : own ≡ c.get-in-loop-at.result.now = ap name_of_link (link_is names parts row.card c.index-parts-above.result (c.requires.cards i no_row below) c.index-parts-above.is) ∙ sym c.get-in-loop-at.ensures in
     sym (c.loop-at.invariant.same ∙ ap (bytes_eq c.loop-at.rest.now) (ap (λ (w : Way). printed (names_on names parts w) []) step ∙ front_more own up)
-      ∙ strip_yes c.loop-at.rest.now c.in-Some-strip_suffix.front.now (codes "/") (printed up [] ++ own) c.in-Some-strip_suffix.ensures.cases.0 c.in-Some-strip_suffix.ensures.cases.1
-      ∙ ap (λ (s : List ℕ). bytes_eq c.in-Some-strip_suffix.front.now (printed up [] ++ s)) is
-      ∙ strip_no c.in-Some-strip_suffix.front.now c.get-in-loop-at.result.now (printed up []) c.in_default-strip_suffix-2.ensures.cases)
+    ∙ strip_yes c.loop-at.rest.now c.in-Some-strip_suffix.front.now (codes "/") (printed up [] ++ own) c.in-Some-strip_suffix.ensures.cases.0 c.in-Some-strip_suffix.ensures.cases.1
+    ∙ ap (λ (s : List ℕ). bytes_eq c.in-Some-strip_suffix.front.now (printed up [] ++ s)) is
+    ∙ strip_no c.in-Some-strip_suffix.front.now c.get-in-loop-at.result.now (printed up []) c.in_default-strip_suffix-2.ensures.cases)
 
 pub loop-at-preserved : goal.loop-at-preserved
 loop-at-preserved c =
@@ -69,12 +69,12 @@ loop-at-preserved c =
     let own : List ℕ = name_of_link (link_at names parts row.card) in
     let is : own ≡ c.get-in-loop-at.result.now = ap name_of_link (link_is names parts row.card c.index-parts-above.result (c.requires.cards i no_row below) c.index-parts-above.is) ∙ sym c.get-in-loop-at.ensures in
     record {
-  inside = omega (arith, c.requires.tree.parents i below, below);
-  same = c.loop-at.invariant.same ∙ ap (bytes_eq c.loop-at.rest.now) (ap (λ (w : Way). printed (names_on names parts w) []) step ∙ front_more own up)
-    ∙ strip_yes c.loop-at.rest.now c.in-Some-strip_suffix.front.now (codes "/") (printed up [] ++ own) c.in-Some-strip_suffix.ensures.cases.0 c.in-Some-strip_suffix.ensures.cases.1
-    ∙ ap (λ (s : List ℕ). bytes_eq c.in-Some-strip_suffix.front.now (printed up [] ++ s)) is
-    ∙ strip_yes c.in-Some-strip_suffix.front.now c.in-Some-strip_suffix-2.front.now c.get-in-loop-at.result.now (printed up []) c.in-Some-strip_suffix-2.ensures.cases.0 c.in-Some-strip_suffix-2.ensures.cases.1;
-}
+      inside = omega (arith, c.requires.tree.parents i below, below);
+      same = c.loop-at.invariant.same ∙ ap (bytes_eq c.loop-at.rest.now) (ap (λ (w : Way). printed (names_on names parts w) []) step ∙ front_more own up)
+          ∙ strip_yes c.loop-at.rest.now c.in-Some-strip_suffix.front.now (codes "/") (printed up [] ++ own) c.in-Some-strip_suffix.ensures.cases.0 c.in-Some-strip_suffix.ensures.cases.1
+          ∙ ap (λ (s : List ℕ). bytes_eq c.in-Some-strip_suffix.front.now (printed up [] ++ s)) is
+          ∙ strip_yes c.in-Some-strip_suffix.front.now c.in-Some-strip_suffix-2.front.now c.get-in-loop-at.result.now (printed up []) c.in-Some-strip_suffix-2.ensures.cases.0 c.in-Some-strip_suffix-2.ensures.cases.1;
+    }
 
 pub returns : goal.returns
 returns c =

@@ -1,4 +1,4 @@
-use Rattle.std.proofs.Common.{◌≡◌, ℕ, ◌+◌, ◌-◌, ◌<◌, ◌≤◌, [], ◌∷◌, ◌++◌, List, length, get_or, sym, ap, ◌∙◌, append_assoc, length-append, lit<, arith}
+use Rattle.std.proofs.Common.{◌≡◌, ℕ, ◌+◌, ◌-◌, ◌<◌, ◌≤◌, [], ◌∷◌, ◌++◌, length, get_or, sym, ap, ◌∙◌, append_assoc, length-append, lit<, arith}
 use Rattle.std.proofs.lemmas.List.{append-nil}
 use Rattle.cvc_flat.specs.Tables.{Way, no_row, way_at, way_in, ways_of}
 use Rattle.cvc_flat.proofs.Ways.{way_step, way_top}
@@ -26,9 +26,9 @@ loop-at-preserved c =
     let step : way_at (ways_of rows) c.loop-at.at ≡ way_in (ways_of rows) row = ap (way_at (ways_of rows)) at ∙ way_step rows i below (c.requires.tree.parents i below) in
     let up : Way = way_at (ways_of rows) row.parent in
     record {
-  inside = omega (arith, c.requires.tree.parents i below, below);
-  way = c.loop-at.invariant.way ∙ ap (λ (w : Way). c.loop-at.way.items ++ w) step ∙ sym (append_assoc c.loop-at.way.items (row.card ∷ []) up) ∙ ap (λ (l : Way). l ++ up) (sym c.push.ensures.items);
-}
+      inside = omega (arith, c.requires.tree.parents i below, below);
+      way = c.loop-at.invariant.way ∙ ap (λ (w : Way). c.loop-at.way.items ++ w) step ∙ sym (append_assoc c.loop-at.way.items (row.card ∷ []) up) ∙ ap (λ (l : Way). l ++ up) (sym c.push.ensures.items);
+    }
 
 pub returns : goal.returns
 returns c =

@@ -1,4 +1,4 @@
-use Rattle.std.proofs.Common.{◌∙◌, Err, arith}
+use Rattle.std.proofs.Common.{◌∙◌, arith}
 use Rattle.std.proofs.lemmas.Result.{err_from_is_err_and}
 use Rattle.cvc_flat.proofs.Writing.{part_front, written_more}
 use Rattle.cvc_flat.proofs.way.write_all.Goals as goal

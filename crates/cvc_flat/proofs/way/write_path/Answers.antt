@@ -1,4 +1,4 @@
-use Rattle.std.proofs.Common.{◌≡◌, ℕ, ◌+◌, ◌<◌, ◌≤◌, [], ◌∷◌, ◌++◌, List, length, get_or, Option, refl, sym, ap, subst, ◌∙◌, append_assoc, arith}
+use Rattle.std.proofs.Common.{◌≡◌, ℕ, ◌<◌, [], ◌++◌, List, length, Option, sym, ap, subst, ◌∙◌, append_assoc, arith}
 use Rattle.std.specs.Prelude.{All, codes}
 use Rattle.std.specs.Io.KnownBytes.{append_known}
 use Rattle.std.proofs.lemmas.Bool.{false≢true}
@@ -37,9 +37,9 @@ returns-in_err-write_all-clause-written g c =
     let more : List ℕ = codes "/" ++ printed (names_on names parts c.pop.new.self.items) name in
     let w = c.loop-card.invariant.written in
     let split : printed (names_on names parts c.loop-card.way.items) name ≡ c.get.result.now ++ more =
-      ap (λ way. printed (names_on names parts way) name) c.in-Some.ensures.items ∙ path_last names parts c.pop.new.self.items c.in-Some.card c.index-parts-card.result name inside c.index-parts-card.is ∙ ap (λ (l : List ℕ). l ++ more) (sym c.get.ensures) in
+    ap (λ way. printed (names_on names parts way) name) c.in-Some.ensures.items ∙ path_last names parts c.pop.new.self.items c.in-Some.card c.index-parts-card.result name inside c.index-parts-card.is ∙ ap (λ (l : List ℕ). l ++ more) (sym c.get.ensures) in
     rw p.1 (part_behind w.0 c.get.result.now more (printed (names_on names parts (way_at (ways_of c.args.instances.now) c.args.instance)) name) (g.K.Sink.written c.args.sink.now) (g.K.Sink.written c.loop-card.sink) (g.K.Sink.written c.write_all.new.sink)
-      w.2 (ap (λ (l : List ℕ). w.0 ++ l) (sym split) ∙ w.1) c.in_err-write_all.ensures.written)
+    w.2 (ap (λ (l : List ℕ). w.0 ++ l) (sym split) ∙ w.1) c.in_err-write_all.ensures.written)
 
 pub loop-card-preserved : goal.loop-card-preserved
 loop-card-preserved g c =
@@ -50,16 +50,18 @@ loop-card-preserved g c =
     let left : List ℕ = printed (names_on names parts c.pop.new.self.items) name in
     let w = c.loop-card.invariant.written in
     let split : printed (names_on names parts c.loop-card.way.items) name ≡ c.get.result.now ++ (codes "/" ++ left) =
-      ap (λ way. printed (names_on names parts way) name) c.in-Some.ensures.items ∙ path_last names parts c.pop.new.self.items c.in-Some.card c.index-parts-card.result name inside c.index-parts-card.is ∙ ap (λ (l : List ℕ). l ++ (codes "/" ++ left)) (sym c.get.ensures) in
+    ap (λ way. printed (names_on names parts way) name) c.in-Some.ensures.items ∙ path_last names parts c.pop.new.self.items c.in-Some.card c.index-parts-card.result name inside c.index-parts-card.is ∙ ap (λ (l : List ℕ). l ++ (codes "/" ++ left)) (sym c.get.ensures) in
     record {
-  counts = omega (arith, c.loop-card.invariant.counts, c.in_ok-write_all.ensures.cause.later, c.in_ok-write_all-2.ensures.cause.later);
-  inside = all_front (λ k. k < length parts) c.loop-card.way.items c.pop.new.self.items c.in-Some.card c.in-Some.ensures.items c.loop-card.invariant.inside;
-  written = ((w.0 ++ c.get.result.now) ++ codes "/",
-    append_assoc (w.0 ++ c.get.result.now) (codes "/") left ∙ append_assoc w.0 c.get.result.now (codes "/" ++ left) ∙ ap (λ (l : List ℕ). w.0 ++ l) (sym split) ∙ w.1,
-    c.in_ok-write_all-2.ensures.written
-    ∙ ap (λ (o : Option (List ℕ)). append_known o (codes "/")) (c.in_ok-write_all.ensures.written ∙ ap (λ (o : Option (List ℕ)). append_known o c.get.result.now) w.2 ∙ twice_known (g.K.Sink.written c.args.sink.now) w.0 c.get.result.now)
-    ∙ twice_known (g.K.Sink.written c.args.sink.now) (w.0 ++ c.get.result.now) (codes "/"));
-}
+      counts = omega (arith, c.loop-card.invariant.counts, c.in_ok-write_all.ensures.cause.later, c.in_ok-write_all-2.ensures.cause.later);
+      inside = all_front (λ k. k < length parts) c.loop-card.way.items c.pop.new.self.items c.in-Some.card c.in-Some.ensures.items c.loop-card.invariant.inside;
+      written = (
+        (w.0 ++ c.get.result.now) ++ codes "/",
+        append_assoc (w.0 ++ c.get.result.now) (codes "/") left ∙ append_assoc w.0 c.get.result.now (codes "/" ++ left) ∙ ap (λ (l : List ℕ). w.0 ++ l) (sym split) ∙ w.1,
+        c.in_ok-write_all-2.ensures.written
+            ∙ ap (λ (o : Option (List ℕ)). append_known o (codes "/")) (c.in_ok-write_all.ensures.written ∙ ap (λ (o : Option (List ℕ)). append_known o c.get.result.now) w.2 ∙ twice_known (g.K.Sink.written c.args.sink.now) w.0 c.get.result.now)
+            ∙ twice_known (g.K.Sink.written c.args.sink.now) (w.0 ++ c.get.result.now) (codes "/"),
+      );
+    }
 
 pub returns-in_err-write_all-2-clause-written : goal.returns-in_err-write_all-2-clause-written
 returns-in_err-write_all-2-clause-written g c =
@@ -71,10 +73,10 @@ returns-in_err-write_all-2-clause-written g c =
     let left : List ℕ = printed (names_on names parts c.pop.new.self.items) name in
     let w = c.loop-card.invariant.written in
     let split : printed (names_on names parts c.loop-card.way.items) name ≡ c.get.result.now ++ (codes "/" ++ left) =
-      ap (λ way. printed (names_on names parts way) name) c.in-Some.ensures.items ∙ path_last names parts c.pop.new.self.items c.in-Some.card c.index-parts-card.result name inside c.index-parts-card.is ∙ ap (λ (l : List ℕ). l ++ (codes "/" ++ left)) (sym c.get.ensures) in
+    ap (λ way. printed (names_on names parts way) name) c.in-Some.ensures.items ∙ path_last names parts c.pop.new.self.items c.in-Some.card c.index-parts-card.result name inside c.index-parts-card.is ∙ ap (λ (l : List ℕ). l ++ (codes "/" ++ left)) (sym c.get.ensures) in
     rw p.1 (part_behind (w.0 ++ c.get.result.now) (codes "/") left (printed (names_on names parts (way_at (ways_of c.args.instances.now) c.args.instance)) name) (g.K.Sink.written c.args.sink.now) (g.K.Sink.written c.write_all.new.sink) (g.K.Sink.written c.write_all-in-Some.new.sink)
-      (c.in_ok-write_all.ensures.written ∙ ap (λ (o : Option (List ℕ)). append_known o c.get.result.now) w.2 ∙ twice_known (g.K.Sink.written c.args.sink.now) w.0 c.get.result.now)
-      (append_assoc w.0 c.get.result.now (codes "/" ++ left) ∙ ap (λ (l : List ℕ). w.0 ++ l) (sym split) ∙ w.1) c.in_err-write_all-2.ensures.written)
+    (c.in_ok-write_all.ensures.written ∙ ap (λ (o : Option (List ℕ)). append_known o c.get.result.now) w.2 ∙ twice_known (g.K.Sink.written c.args.sink.now) w.0 c.get.result.now)
+    (append_assoc w.0 c.get.result.now (codes "/" ++ left) ∙ ap (λ (l : List ℕ). w.0 ++ l) (sym split) ∙ w.1) c.in_err-write_all-2.ensures.written)
 
 pub returns-clause-written : goal.returns-clause-written
 returns-clause-written g c =
@@ -84,4 +86,4 @@ returns-clause-written g c =
     let w = c.loop-card.invariant.written in
     let none : c.loop-card.way.items ≡ [] = empty_of c.loop-card.way.items (λ h. false≢true (c.in_default.ensures.variant.1 h)) in
     writes_last c.write_all-2.result w.0 c.get-2.result.now (printed (names_on names parts (way_at (ways_of c.args.instances.now) c.args.instance)) name) (g.K.Sink.written c.args.sink.now) (g.K.Sink.written c.loop-card.sink) (g.K.Sink.written c.write_all-2.new.sink)
-      w.2 (ap (λ (l : List ℕ). w.0 ++ l) (c.get-2.ensures ∙ ap (λ way. printed (names_on names parts way) name) (sym none)) ∙ w.1) c.write_all-2.ensures.written
+    w.2 (ap (λ (l : List ℕ). w.0 ++ l) (c.get-2.ensures ∙ ap (λ way. printed (names_on names parts way) name) (sym none)) ∙ w.1) c.write_all-2.ensures.written

@@ -1,4 +1,4 @@
-use Rattle.std.proofs.Common.{◌≡◌, ◌<◌, length, sym, ap, subst, arith}
+use Rattle.std.proofs.Common.{◌<◌, length, sym, ap, subst, arith}
 use Rattle.std.proofs.lemmas.List.{length-map}
 use Rattle.cvc_flat.specs.declared.rows.DeviceRow.{DeviceRow}
 use Rattle.cvc_flat.specs.Flat.{FlatDevice}
@@ -15,4 +15,4 @@ returns c =
     let inside : c.args.d.0 < length f.devices.items = omega (arith, c.requires, ap (λ (h : Held). length h.list.devices) c.self.view_is, length-map {A = DeviceRow} {B = FlatDevice}) in
     let below = c.self.invariant.devices c.args.d.0 row inside in
     subst (λ (h : Held). IsGroup h c.args.d.0 row.group) c.self.view_is
-      (group_of_row t c.args.d.0 row inside c.index.ensures (subst (λ (r : DeviceRow). r.group < length f.groups.items) (sym c.index.ensures) below.2))
+    (group_of_row t c.args.d.0 row inside c.index.ensures (subst (λ (r : DeviceRow). r.group < length f.groups.items) (sym c.index.ensures) below.2))

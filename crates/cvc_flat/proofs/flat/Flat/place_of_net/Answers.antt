@@ -1,5 +1,5 @@
 use Rattle.std.proofs.Common.{◌≡◌, ℕ, List, [], map, drop, refl, sym, ap, ◌∙◌}
-use Rattle.std.specs.Prelude.{Option, None, Some}
+use Rattle.std.specs.Prelude.{None, Some}
 use Rattle.std.specs.Option.{option_and_then, option_or}
 use Rattle.cvc_flat.specs.FindNet.{find_net, net_named, number_among, number_printed, pieces}
 use Rattle.cvc_flat.specs.Flat.{FlatList}
@@ -23,10 +23,10 @@ returns-in-Some-clause-place c =
     let parts = c.deref.result.now in
     let rows = c.deref-2.result.now in
     let e : number_printed (held_of t).list.nets text ≡ Some c.in-Some.place =
-      ap (λ ps. number_printed (map (net_at s.names ps (ways_of s.instances.items)) s.nets.items) text) (sym c.deref.ensures.value)
-      ∙ ap (λ rs. number_printed (map (net_at s.names parts (ways_of rs)) s.nets.items) text) (sym c.deref-2.ensures.value)
-      ∙ ap (λ ns. number_printed (map (net_at s.names parts (ways_of rows)) ns) text) (sym c.deref-3.ensures.value)
-      ∙ sym c.first_printed.ensures.place ∙ c.in-Some.is in
+    ap (λ ps. number_printed (map (net_at s.names ps (ways_of s.instances.items)) s.nets.items) text) (sym c.deref.ensures.value)
+    ∙ ap (λ rs. number_printed (map (net_at s.names parts (ways_of rs)) s.nets.items) text) (sym c.deref-2.ensures.value)
+    ∙ ap (λ ns. number_printed (map (net_at s.names parts (ways_of rows)) ns) text) (sym c.deref-3.ensures.value)
+    ∙ sym c.first_printed.ensures.place ∙ c.in-Some.is in
     sym (printed_first (held_of t).list text c.in-Some.place e) ∙ ap (λ (h : Held). find_net h.list text) c.self.view_is
 
 pub returns-in-None-clause-place : goal.returns-in-None-clause-place
@@ -38,16 +38,16 @@ returns-in-None-clause-place c =
     let parts = c.deref.result.now in
     let rows = c.deref-2.result.now in
     let e : number_printed f.nets text ≡ None =
-      ap (λ ps. number_printed (map (net_at s.names ps (ways_of s.instances.items)) s.nets.items) text) (sym c.deref.ensures.value)
-      ∙ ap (λ rs. number_printed (map (net_at s.names parts (ways_of rs)) s.nets.items) text) (sym c.deref-2.ensures.value)
-      ∙ ap (λ ns. number_printed (map (net_at s.names parts (ways_of rows)) ns) text) (sym c.deref-3.ensures.value)
-      ∙ sym c.first_printed.ensures.place ∙ c.in-None.is in
+    ap (λ ps. number_printed (map (net_at s.names ps (ways_of s.instances.items)) s.nets.items) text) (sym c.deref.ensures.value)
+    ∙ ap (λ rs. number_printed (map (net_at s.names parts (ways_of rs)) s.nets.items) text) (sym c.deref-2.ensures.value)
+    ∙ ap (λ ns. number_printed (map (net_at s.names parts (ways_of rows)) ns) text) (sym c.deref-3.ensures.value)
+    ∙ sym c.first_printed.ensures.place ∙ c.in-None.is in
     let parts2 = c.deref-in-None.result.now in
     let rows2 = c.deref-in-None-2.result.now in
     let second = net_named f [] (pieces text) in
     c.first_named.ensures.place f refl
-      (ap (λ ps. map (path_of s.names ps) (drop 1 (ways_of s.instances.items))) (sym c.deref-in-None.ensures.value)
-       ∙ ap (λ rs. map (path_of s.names parts2) (drop 1 (ways_of rs))) (sym c.deref-in-None-2.ensures.value))
+    (ap (λ ps. map (path_of s.names ps) (drop 1 (ways_of s.instances.items))) (sym c.deref-in-None.ensures.value)
+    ∙ ap (λ rs. map (path_of s.names parts2) (drop 1 (ways_of rs))) (sym c.deref-in-None-2.ensures.value))
     ∙ ap (λ ns. option_and_then (number_among (map (net_at s.names parts2 (ways_of rows2)) ns)) second) c.deref-in-None-3.ensures.value
     ∙ ap (λ rs. option_and_then (number_among (map (net_at s.names parts2 (ways_of rs)) s.nets.items)) second) c.deref-in-None-2.ensures.value
     ∙ ap (λ ps. option_and_then (number_among (map (net_at s.names ps (ways_of s.instances.items)) s.nets.items)) second) c.deref-in-None.ensures.value
