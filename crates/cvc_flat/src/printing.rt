@@ -7,12 +7,11 @@ ghost use Rattle.cvc_flat.specs.Instances.{printed};
 ghost use Rattle.cvc_flat.specs.Tables.{IsTree, names_on, text, way_at, ways_of};
 
 use crate::flat::Flat;
+use crate::names::Names;
 use crate::rows::{InstancePart, InstanceRow};
 use crate::way::way_up;
 use arrayvec::ArrayVec;
-use crate::names::Names;
 use cvc_base::{DevId, NetId};
-
 
 // The pieces of a name behind the names on the way to its instance.
 fn pieces_of<'a>(
@@ -48,7 +47,13 @@ impl Flat {
     {
         let row = &self.devices[d.0 as usize];
         let name = self.cards[row.card as usize].name;
-        pieces_of(&self.names, &self.parts, &self.instances, row.instance, name)
+        pieces_of(
+            &self.names,
+            &self.parts,
+            &self.instances,
+            row.instance,
+            name,
+        )
     }
 
     /// The printed name of a net in pieces, in the same way.
@@ -57,6 +62,12 @@ impl Flat {
         ensures { flat_map (λ w. w.now) result.items ≡ printed_net (net self.now.list n.0) }
     {
         let row = &self.nets[n.0 as usize];
-        pieces_of(&self.names, &self.parts, &self.instances, row.instance, row.name)
+        pieces_of(
+            &self.names,
+            &self.parts,
+            &self.instances,
+            row.instance,
+            row.name,
+        )
     }
 }

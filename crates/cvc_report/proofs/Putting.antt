@@ -8,7 +8,8 @@ use Rattle.std.proofs.lemmas.List.Concat.{flat_map-append}
 use Rattle.std.proofs.lemmas.List.Folds.{flat_map-map}
 use Rattle.std.proofs.Math.Seq.{take-add}
 use Rattle.cvc_io.specs.Causes.{Rose, HasCause}
-use Rattle.cvc_report.specs.Writing.{Stand, stand, Moves, Stops, Puts, WritesPart, WritesText}
+use Rattle.cvc_report.specs.Writing.{Stand, stand, Moves, Stops, Puts}
+use Rattle.cvc_flat.specs.Answers.{WritesPart, WritesText}
 
 twice_known : (before : Option (List ℕ)) (x y : List ℕ) → append_known (append_known before x) y ≡ append_known before (x ++ y)
 twice_known None x y = refl
@@ -175,7 +176,7 @@ items_stopped f xs i d a b c lt before stops =
     let P : List ℕ → Type 0 = λ l. Stops a c l in
     let front = flat_map f (take i xs) in
     let whole : (front ++ f (get_or xs i d)) ++ flat_map f (drop (i + 1) xs) ≡ flat_map f xs =
-        ap (λ (l : List ℕ). l ++ flat_map f (drop (i + 1) xs)) (sym (one_more f xs i d lt)) ∙ sym (flat_map-append f (take (i + 1) xs) (drop (i + 1) xs)) ∙ ap (flat_map f) (take-append-drop (i + 1) xs) in
+    ap (λ (l : List ℕ). l ++ flat_map f (drop (i + 1) xs)) (sym (one_more f xs i d lt)) ∙ sym (flat_map-append f (take (i + 1) xs) (drop (i + 1) xs)) ∙ ap (flat_map f) (take-append-drop (i + 1) xs) in
     subst P whole (stops_early a c (front ++ f (get_or xs i d)) (flat_map f (drop (i + 1) xs)) (stops_then a b c front (f (get_or xs i d)) before stops))
 
 pub items_all : {X : Type 0} (f : X → List ℕ) (xs : List X) (i : ℕ) (a b : Stand) → length xs ≤ i → Moves a b (flat_map f (take i xs)) → Moves a b (flat_map f xs)
@@ -196,9 +197,9 @@ mapped_all f h xs i a b le moves =
 
 -- ## What the sink has in the end
 
-pub written_stopped : {T E : Type 0} (r : Result T E) (e : E) → r ≡ Err e → (a b : Stand) (text : List ℕ) → a.waiting ≡ [] → Stops a b text → WritesText a.written b.written r text
-written_stopped {T} {E} r e is a b text empty stops =
-    let P : Result T E → Type 0 = λ s. WritesText a.written b.written s text in
+pub written_stopped : {E : Type 0} (r : Result (Unit {0}) E) (e : E) → r ≡ Err e → (a b : Stand) (text : List ℕ) → a.waiting ≡ [] → Stops a b text → WritesText a.written b.written r text
+written_stopped {E} r e is a b text empty stops =
+    let P : Result (Unit {0}) E → Type 0 = λ s. WritesText a.written b.written s text in
     subst P (sym is) (wrote_front a b text empty stops)
 
 pub stopped_cause : {T E : Type 0} (r : Result T E) (e : E) → r ≡ Err e → (a b : Stand) (text : List ℕ) → Stops a b text → HasCause a.faults b.faults r
@@ -206,7 +207,7 @@ stopped_cause {T} {E} r e is a b text stops =
     let P : Result T E → Type 0 = λ s. OnErr s (Rose a.faults b.faults) in
     record { later = stops.later; failed = subst P (sym is) stops.failed }
 
-pub written_flushed : {T E : Type 0} (r : Result T E) (a b c : Stand) (text : List ℕ) → a.waiting ≡ [] → Moves a b text → Puts r b c [] → OnOk r (c.waiting ≡ []) → WritesText a.written c.written r text
+pub written_flushed : {E : Type 0} (r : Result (Unit {0}) E) (a b c : Stand) (text : List ℕ) → a.waiting ≡ [] → Moves a b text → Puts r b c [] → OnOk r (c.waiting ≡ []) → WritesText a.written c.written r text
 written_flushed (Ok v) a b c text none put flush empty =
     let P : List ℕ → Type 0 = λ l. Moves a c l in
     wrote_all a c text none empty (subst P (append-nil text) (moves_then a b c text [] put flush))

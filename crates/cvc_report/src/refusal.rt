@@ -1,7 +1,7 @@
 //! The lines of refusals.
 ghost use Rattle.std.specs.Prelude.{◌≡◌};
 ghost use Rattle.cvc_io.specs.Causes.{HasCause};
-ghost use Rattle.cvc_report.specs.Writing.{WritesText};
+ghost use Rattle.cvc_flat.specs.Answers.{WritesText};
 ghost use Rattle.cvc_report.specs.Refusals.{refusal, word_refusal};
 
 use crate::printed::word_for_file;

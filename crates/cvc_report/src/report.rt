@@ -4,7 +4,8 @@ ghost use Rattle.cvc_io.specs.Causes.{HasCause};
 ghost use Rattle.cvc_law.specs.Network.{nets, devices};
 ghost use Rattle.cvc_law.specs.Bound.{IsBound};
 ghost use Rattle.cvc_law.specs.Rules.{findings_of};
-ghost use Rattle.cvc_report.specs.Writing.{Puts, WritesText, stand};
+ghost use Rattle.cvc_report.specs.Writing.{Puts, stand};
+ghost use Rattle.cvc_flat.specs.Answers.{WritesText};
 ghost use Rattle.cvc_report.specs.Report.{top_word, top_line, report_with, report};
 
 use crate::counts::count_declared;

@@ -2,7 +2,8 @@
 ghost use Rattle.std.specs.Prelude.{◌≡◌, []};
 ghost use Rattle.std.specs.List.{flat_map};
 ghost use Rattle.cvc_io.specs.Causes.{HasCause};
-ghost use Rattle.cvc_report.specs.Writing.{Puts, WritesText, stand};
+ghost use Rattle.cvc_report.specs.Writing.{Puts, stand};
+ghost use Rattle.cvc_flat.specs.Answers.{WritesText};
 ghost use Rattle.cvc_report.specs.Lines.{line};
 ghost use Rattle.cvc_report.specs.Counts.{size_words, count_line, errors_line};
 ghost use Rattle.cvc_report.specs.Summary.{survey_line, summary};

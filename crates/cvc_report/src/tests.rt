@@ -1,5 +1,6 @@
-ghost use Rattle.std.specs.Prelude.{◌≡◌, ◌≤ℤ◌, ℕ, IsTrue, Some, None, slice_index_or};
+ghost use Rattle.std.specs.Prelude.{◌≡◌, ◌≤ℤ◌, ℕ, [], IsTrue, Some, None, slice_index_or};
 ghost use Rattle.cvc_law.specs.declared.interval.Fixed.{Fixed};
+ghost use Rattle.cvc_law.specs.Network.{IsCircuit};
 
 use super::*;
 use cvc_base::{Cause, DevId, Fault, FileKind, Finding, Findings, Mv, NoMemory, Place, Rule};
@@ -78,7 +79,11 @@ fn a_sink_of_every_room_has_a_front(rt: HostRuntime) -> Result<(), Fail> {
         let mut sink = MemSink::new(rt.alloc(), room)?;
         let written = write_refusal(&refused, &mut sink);
         assert_eq!(rt; written.is_ok(), room >= whole.len(), "room {room}");
-        assert_eq!(rt; sink.bytes(), &whole[..room.min(whole.len())], "room {room}");
+        assert_eq!(rt;
+            sink.bytes(),
+            &whole[..room.min(whole.len())],
+            "room {room}"
+        );
     }
     Ok(())
 }
@@ -118,6 +123,16 @@ fn are_ordered(fixed: &[Option<Fixed>]) -> bool
     true
 }
 
+/// Whether these nets make a circuit without devices.
+fn is_circuit(fixed: &[Option<Fixed>]) -> bool
+    ensures { IsTrue result → IsCircuit fixed.now [] }
+{
+    if fixed.len() > 1_000_000 {
+        return false;
+    }
+    are_ordered(fixed)
+}
+
 /// A circuit of five nets without devices, of which three are declared.
 fn five_nets(rt: &impl Abort, alloc: Global) -> Result<Circuit, NoMemory> {
     let mut fixed = Vec::new(alloc);
@@ -125,7 +140,7 @@ fn five_nets(rt: &impl Abort, alloc: Global) -> Result<Circuit, NoMemory> {
         let supply = declared.map(|v| Mv::new(v).expect(rt, "within a million millivolts"));
         fixed.push(supply.map(|v| Fixed { low: v, high: v }))?;
     }
-    assert!(rt; are_ordered(&fixed));
+    assert!(rt; is_circuit(&fixed));
     Circuit::new(alloc, fixed, Vec::new(alloc))
 }
 
@@ -162,7 +177,9 @@ fn a_summary_counts_the_findings_of_twelve_rules(rt: HostRuntime) -> Result<(), 
     )?;
     let mut sink = MemSink::new(rt.alloc(), 1000)?;
     write_summary(u64::MAX, 200_000, &circuit, &findings, &mut sink)?;
-    assert_eq!(rt; sink.bytes(), b"CVC survey seed 18446744073709551615 size 200000
+    assert_eq!(rt;
+        sink.bytes(),
+        b"CVC survey seed 18446744073709551615 size 200000
 devices 0 nets 5 declared 3
 overvoltage-gs 2
 overvoltage-gd 0
@@ -177,6 +194,8 @@ supply-path 0
 floating-gate 3
 sure-leak 1
 errors 7
-".as_slice());
+"
+            .as_slice()
+    );
     Ok(())
 }

@@ -1,7 +1,8 @@
 //! A writer that hands its bytes to a sink in large pieces.
 ghost use Rattle.std.specs.Prelude.{◌≡◌, ◌<◌, ◌≤◌, [], ◌∷◌, ◌++◌, take, length, map, OnOk};
 ghost use Rattle.arrayvec.specs.ArrayVec.{array_vec_len};
-ghost use Rattle.cvc_report.specs.Writing.{Puts, WritesText, stand};
+ghost use Rattle.cvc_report.specs.Writing.{Puts, stand};
+ghost use Rattle.cvc_flat.specs.Answers.{WritesText};
 ghost use Rattle.cvc_io.specs.Causes.{HasCause};
 ghost use Rattle.cvc_report.specs.Lines.{blank_before, line_end, line};
 ghost use Rattle.std.specs.List.{flat_map};

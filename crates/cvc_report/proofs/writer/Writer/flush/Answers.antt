@@ -8,8 +8,8 @@ returns-in_err-done-clause-put g c =
     let old = c.args.self.now in
     let e = err_from_is_err_and c.from_residual.result c.from_residual.ensures.1 in
     puts_stopped c.from_residual.result e.0 e.1 _ _ [] (flush_stopped (g.K.Sink.written old.sink.now) (g.K.Sink.written c.loop-done.self.sink.now) (g.K.Sink.written c.write.new.self) old.waiting.items c.loop-done.self.waiting.items c.loop-done.done
-        (g.K.Sink.faults old.sink.now) (g.K.Sink.faults c.loop-done.self.sink.now) (g.K.Sink.faults c.write.new.self)
-        c.loop-done.invariant.written c.in_err-done.ensures.bytes c.loop-done.invariant.later c.in_err-done.ensures.cause.later c.in_err-done.ensures.cause.failed)
+    (g.K.Sink.faults old.sink.now) (g.K.Sink.faults c.loop-done.self.sink.now) (g.K.Sink.faults c.write.new.self)
+    c.loop-done.invariant.written c.in_err-done.ensures.bytes c.loop-done.invariant.later c.in_err-done.ensures.cause.later c.in_err-done.ensures.cause.failed)
 
 pub loop-done-preserved : goal.loop-done-preserved
 loop-done-preserved g c = record {

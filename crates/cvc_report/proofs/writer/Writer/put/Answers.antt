@@ -11,7 +11,7 @@ returns-in_err-make_room-clause-put g c =
 pub loop-done-preserved : goal.loop-done-preserved
 loop-done-preserved g c =
     let room = c.make_room.new.self in record {
-  same_sink = search rules;
-  inside = put_inside c.args.text.now c.loop-done.done c.fill-done.result c.loop-done.invariant.inside c.fill-done.ensures.bound;
-  moved = put_piece _ _ (g.K.Sink.written room.sink.now) room.waiting.items c.fill-done.new.waiting.items (g.K.Sink.faults room.sink.now) c.args.text.now c.loop-done.done c.fill-done.result c.loop-done.invariant.moved c.in_ok-make_room.ensures.put c.fill-done.ensures.put;
-}
+      same_sink = search rules;
+      inside = put_inside c.args.text.now c.loop-done.done c.fill-done.result c.loop-done.invariant.inside c.fill-done.ensures.bound;
+      moved = put_piece _ _ (g.K.Sink.written room.sink.now) room.waiting.items c.fill-done.new.waiting.items (g.K.Sink.faults room.sink.now) c.args.text.now c.loop-done.done c.fill-done.result c.loop-done.invariant.moved c.in_ok-make_room.ensures.put c.fill-done.ensures.put;
+    }

@@ -2,7 +2,7 @@ use Rattle.std.proofs.Common.{ℕ, List, subst}
 use Rattle.std.proofs.lemmas.Result.{err_from_is_err_and}
 use Rattle.cvc_base.specs.declared.finding.Finding.{Finding}
 use Rattle.cvc_report.specs.Report.{report_with}
-use Rattle.cvc_report.specs.Writing.{WritesText}
+use Rattle.cvc_flat.specs.Answers.{WritesText}
 use Rattle.cvc_report.proofs.Putting.{written_stopped, written_flushed, stopped_cause, flushed_cause}
 use Rattle.cvc_report.proofs.Listed.{of_devices}
 use Rattle.cvc_report.proofs.writer.Writer.send_report.Goals as goal
