@@ -9,7 +9,6 @@ pub mod Naming
 pub mod Pieces
 pub mod Finding
 pub mod Numbering
-pub mod Growing
 pub mod Stack
 pub mod Once
 pub mod Following

@@ -11,4 +11,3 @@ pub mod Held
 pub mod Names
 pub mod Tables
 pub mod Resolving
-pub mod Plans
