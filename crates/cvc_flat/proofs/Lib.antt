@@ -2,13 +2,8 @@ pub mod Lists
 pub mod Writing
 pub mod Ways
 pub mod Groups
-pub mod Apart
 pub mod Resolving
 pub mod Stripping
 pub mod Naming
 pub mod Pieces
 pub mod Finding
-pub mod Numbering
-pub mod Stack
-pub mod Once
-pub mod Following

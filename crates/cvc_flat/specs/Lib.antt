@@ -1,7 +1,6 @@
 pub mod Instances
 pub mod Nets
 pub mod Walk
-pub mod Left
 pub mod Params
 pub mod Places
 pub mod Flat
