@@ -10,8 +10,8 @@ use Rattle.cvc_cdl.specs.declared.netlist.Item.{Item}
 use Rattle.cvc_cdl.specs.declared.draft.Draft.{Draft as HeldDraft}
 use Rattle.cvc_cdl.specs.declared.draft.OpenCell.{OpenCell}
 use Rattle.cvc_cdl.specs.declared.level.Level.{Level as HeldLevel}
-use Rattle.cvc_cdl.specs.declared.stop.Stop.{Stop}
-use Rattle.cvc_cdl.specs.declared.stop.Stop.TheVariants as stops
+use Rattle.cvc_base.specs.declared.stop.Stop.{Stop}
+use Rattle.cvc_base.specs.declared.stop.Stop.TheVariants as stops
 use Rattle.cvc_cdl.specs.Building.{is_among}
 use Rattle.cvc_cdl.specs.Builder.{Draft}
 use Rattle.cvc_cdl.specs.Drafting.{Becomes, cell_held, cell_with_item, cell_with_pairs, cells_held, draft_held, globals_once, in_last, item_cause, level_with, name_held, names_here, names_once, with_globals, with_item, with_pairs}
@@ -45,7 +45,7 @@ module _ (d : HeldDraft) (cell : OpenCell) where
     ap (λ x. draft_held (with_open (levelled x))) h.1
         ∙ ap (λ cs. record (draft_held (with_open (levelled (level_with cell.level item)))) { cells = cs }) (last_changed (cell_with_item item) (levelled (level_with cell.level item)) refl),
   )
-  item_step item l (Err (stops.Fault cause)) h = h
+  item_step item l (Err (stops.At cause)) h = h
   item_step item l (Err stops.NoMemory) h = tt
 
   pair_step : (pairs list : List Pair) (r : Result (Unit {0}) Stop) → Becomes None (cell.card.pairs ++ pairs) list r
@@ -55,7 +55,7 @@ module _ (d : HeldDraft) (cell : OpenCell) where
     ap (λ x. draft_held (with_open (paired x))) h.1
         ∙ ap (λ cs. record (draft_held (with_open (paired (cell.card.pairs ++ pairs)))) { cells = cs }) (last_changed (cell_with_pairs pairs) (paired (cell.card.pairs ++ pairs)) refl),
   )
-  pair_step pairs list (Err (stops.Fault cause)) h = h
+  pair_step pairs list (Err (stops.At cause)) h = h
   pair_step pairs list (Err stops.NoMemory) h = tt
 
   module _ (is : d.current ≡ Some cell) where

@@ -8,7 +8,8 @@ use Rattle.cvc_cdl.specs.declared.netlist.Netlist.{Netlist}
 use Rattle.cvc_cdl.specs.Levels.{Entry}
 use Rattle.cvc_cdl.specs.Netlist.{netlist_of}
 use Rattle.cvc_cdl.specs.Building.{or_else}
-use Rattle.cvc_cdl.specs.Builder.{Draft, HasBuilt, IfAt, IsBuilding}
+use Rattle.cvc_base.specs.Answers.{IfAt}
+use Rattle.cvc_cdl.specs.Builder.{Draft, HasBuilt, IsBuilding}
 use Rattle.cvc_cdl.specs.Ending.{ending_fault, reading_of, unless_fault}
 use Rattle.cvc_cdl.specs.Finishing.{Finishes, draft_fault, draft_netlist}
 use Rattle.cvc_cdl.specs.WellFormed.{IsWellFormed}

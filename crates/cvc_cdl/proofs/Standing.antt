@@ -6,12 +6,13 @@ use Rattle.cvc_base.specs.declared.fault.Refusal.{Refusal}
 use Rattle.cvc_base.specs.declared.fault.Refusal.TheVariants.{At, NoMemory}
 use Rattle.cvc_card.specs.declared.card.Card.{Card}
 use Rattle.cvc_card.specs.Formed.{IsFormed}
-use Rattle.cvc_cdl.specs.declared.stop.Stop.{Stop}
-use Rattle.cvc_cdl.specs.declared.stop.Stop.TheVariants as stops
+use Rattle.cvc_base.specs.declared.stop.Stop.{Stop}
+use Rattle.cvc_base.specs.declared.stop.Stop.TheVariants as stops
 use Rattle.cvc_cdl.specs.Levels.{Entry, cell_cards, items_at, level_behind, pairs_at, placed}
 use Rattle.cvc_cdl.specs.Netlist.{cells_of, each_once, mentions}
 use Rattle.cvc_cdl.specs.Building.{building_fault, cause_of, fault_at, fault_of, first_fault, or_else}
-use Rattle.cvc_cdl.specs.Builder.{Building, Draft, HasBuilt, IsBuilding, IsFormedEntry, Refuses, StandsFor, entry_of, places_behind, refusal_in}
+use Rattle.cvc_base.specs.Answers.{Refuses, refusal_in}
+use Rattle.cvc_cdl.specs.Builder.{Building, Draft, HasBuilt, IsBuilding, IsFormedEntry, StandsFor, entry_of, places_behind}
 use Rattle.cvc_cdl.specs.Drafting.{Becomes, cause_in, refusal_of, refused_by, with_card}
 use Rattle.cvc_cdl.proofs.Placing.{first_fault-push}
 use Rattle.cvc_cdl.proofs.Kept.{kept}
@@ -36,7 +37,7 @@ module _ (draft next : Draft) (card : Card) (line : ℕ) (formed : IsFormed line
         faultless = first_fault-push [] es entry ∙ (λ i. or_else (b.faultless i) (option_map (fault_at line) (none i)));
         drafted = h.1 ∙ ap (λ d. with_card d line card) b.drafted ∙ step es line (kept es b.faultless) card none;
       }
-  stands_behind es (Err (stops.Fault cause)) h b =
+  stands_behind es (Err (stops.At cause)) h b =
       let some : cause_of es card ≡ Some cause = sym (ap (λ d. cause_in d card) b.drafted ∙ causes es card) ∙ h in
       first_fault-push [] es entry ∙ (λ i. or_else (b.faultless i) (option_map (fault_at line) (some i)))
   stands_behind es (Err stops.NoMemory) h b = tt

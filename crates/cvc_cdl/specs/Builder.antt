@@ -1,6 +1,6 @@
 -- What a builder stands for: the list of cards that it was given, with their first lines. Until one of them is refused its state is the one that these
 -- give; it keeps no list of cards.
-use Rattle.std.specs.Prelude.{◌≡◌, ℕ, List, [], ◌∷◌, ◌++◌, length, map, Option, Some, None, Result, Ok, Err, All}
+use Rattle.std.specs.Prelude.{◌≡◌, ℕ, List, [], ◌∷◌, ◌++◌, length, map, Option, Some, None, All}
 use Rattle.std.specs.Borrow.{Bor}
 use Rattle.std.specs.Option.{option_map}
 use Rattle.cvc_base.specs.declared.fault.Fault.{Fault}
@@ -99,19 +99,3 @@ StandsFor b entries = HasBuilt b.draft entries b.refused
 -- the name of the top that is asked for
 abbrev pub named_top : Option (Bor (List ℕ)) → Option (List ℕ)
 named_top top = option_map (λ (name : Bor (List ℕ)). name.now) top
-
--- the answer is that there is no fault, or the fault; want of memory says nothing
-abbrev pub Refuses : {A : Type 0} → Option Fault → Result A Refusal → Type 0
-Refuses fault (Ok done) = fault ≡ None
-Refuses fault (Err (At first)) = fault ≡ Some first
-Refuses fault (Err NoMemory) = Unit {0}
-
--- the refusal that an answer leaves
-abbrev pub refusal_in : {A : Type 0} → Result A Refusal → Option Refusal
-refusal_in (Ok done) = None
-refusal_in (Err r) = Some r
-
-abbrev pub IfAt : {A : Type 0} → Result A Refusal → (Fault → Type 0) → Type 0
-IfAt (Ok done) P = Unit {0}
-IfAt (Err (At fault)) P = P fault
-IfAt (Err NoMemory) P = Unit {0}

@@ -4,7 +4,8 @@ use Rattle.std.specs.Option.{option_map, option_to_list}
 use Rattle.cvc_base.specs.declared.cause.Cause.{Cause}
 use Rattle.cvc_base.specs.declared.cause.Cause.TheVariants.{NestedSubckt, TwiceCell, TwicePort, TwiceName}
 use Rattle.cvc_base.specs.declared.fault.Refusal.{Refusal}
-use Rattle.cvc_base.specs.declared.fault.Refusal.TheVariants.{At, NoMemory}
+use Rattle.cvc_base.specs.declared.fault.FileKind.TheVariants.{Netlist}
+use Rattle.cvc_base.specs.Faults.{refusal_on}
 use Rattle.cvc_base.specs.declared.param.Pair.{Pair}
 use Rattle.cvc_card.specs.declared.card.Card.{Card}
 use Rattle.cvc_card.specs.declared.card.Card.TheVariants.{Device, Inst, Subckt, Ends, Global, Params, Ignored}
@@ -17,11 +18,11 @@ use Rattle.cvc_cdl.specs.declared.netlist.Item.TheVariants as items
 use Rattle.cvc_cdl.specs.declared.draft.Draft.{Draft as HeldDraft}
 use Rattle.cvc_cdl.specs.declared.draft.OpenCell.{OpenCell}
 use Rattle.cvc_cdl.specs.declared.level.Level.{Level as HeldLevel}
-use Rattle.cvc_cdl.specs.declared.stop.Stop.{Stop}
-use Rattle.cvc_cdl.specs.declared.stop.Stop.TheVariants as stops
+use Rattle.cvc_base.specs.declared.stop.Stop.{Stop}
+use Rattle.cvc_base.specs.declared.stop.Stop.TheVariants as stops
 use Rattle.cvc_cdl.specs.Levels.{Level}
 use Rattle.cvc_cdl.specs.Netlist.{globals_in}
-use Rattle.cvc_cdl.specs.Building.{cause_if, ends_cause, fault_at, is_among, name_of_item}
+use Rattle.cvc_cdl.specs.Building.{cause_if, ends_cause, is_among, name_of_item}
 use Rattle.cvc_cdl.specs.Builder.{Draft}
 
 -- ## What the code keeps
@@ -145,13 +146,12 @@ cause_in d Ignored = None
 -- the change is made, or there is a cause against it; want of memory says nothing
 abbrev pub Becomes : {A : Type 0} → Option Cause → A → A → Result (Unit {0}) Stop → Type 0
 Becomes cause wanted new (Ok done) = (cause ≡ None) × (new ≡ wanted)
-Becomes cause wanted new (Err (stops.Fault first)) = cause ≡ Some first
+Becomes cause wanted new (Err (stops.At first)) = cause ≡ Some first
 Becomes cause wanted new (Err stops.NoMemory) = Unit {0}
 
 -- the refusal that a stop at a card makes
 abbrev pub refusal_of : ℕ → Stop → Refusal
-refusal_of line (stops.Fault cause) = At (fault_at line cause)
-refusal_of line stops.NoMemory = NoMemory
+refusal_of line stop = refusal_on Netlist line stop
 
 -- the refusal that an answer at a card leaves
 abbrev pub refused_by : ℕ → Result (Unit {0}) Stop → Option Refusal

@@ -4,10 +4,8 @@ ghost use Rattle.cvc_card.specs.Formed.{IsFormed};
 ghost use Rattle.cvc_cdl.specs.Drafting.{refusal_of};
 
 use crate::draft::Draft;
-use crate::fault::fault_at;
 use crate::netlist::Netlist;
-use crate::stop::Stop;
-use cvc_base::{NoMemory, Refusal};
+use cvc_base::{FileKind, NoMemory, Refusal, Stop};
 use cvc_card::Card;
 use std::alloc::Global;
 use std::marker::Model;
@@ -34,7 +32,8 @@ impl Builder {
     ghost use Rattle.cvc_cdl.specs.Building.{building_fault};
     ghost use Rattle.cvc_cdl.specs.Ending.{reading_of};
     ghost use Rattle.cvc_cdl.specs.WellFormed.{IsWellFormed};
-    ghost use Rattle.cvc_cdl.specs.Builder.{IfAt, Refuses, StandsFor, entry_of, named_top, refusal_in};
+    ghost use Rattle.cvc_base.specs.Answers.{IfAt, Refuses, refusal_in};
+    ghost use Rattle.cvc_cdl.specs.Builder.{StandsFor, entry_of, named_top};
 
     /// A builder that was given no card.
     pub fn new(alloc: Global) -> Result<Builder, NoMemory>
@@ -52,10 +51,7 @@ impl Builder {
         ensures refusal { result ≡ refusal_of line stop }
         ensures kept { self.new ≡ record self.old { refused = Some result } }
     {
-        let refusal = match stop {
-            Stop::Fault(cause) => Refusal::At(fault_at(line, cause)),
-            Stop::NoMemory => Refusal::NoMemory,
-        };
+        let refusal = stop.on(FileKind::Netlist, line);
         self.refused = Some(refusal);
         refusal
     }

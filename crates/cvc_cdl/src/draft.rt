@@ -11,8 +11,7 @@ use crate::fault::fault_at;
 use crate::level::Level;
 use crate::names::{Names, has_twice};
 use crate::netlist::{Cell, Cells, Global, Globals, Item, Netlist};
-use crate::stop::Stop;
-use cvc_base::{Cause, NoMemory, Pair, Pairs, Refusal, Text, Texts};
+use cvc_base::{Cause, NoMemory, Pair, Pairs, Refusal, Stop, Text, Texts};
 use cvc_card::{Card, CellCard};
 use std::alloc::Global as Heap;
 
@@ -147,13 +146,13 @@ impl Draft {
         ensures { Becomes (begun_cause (draft_held self.old) card) (with_cell (draft_held self.old) card) (draft_held self.new) result }
     {
         if self.current.is_some() {
-            return Err(Stop::Fault(Cause::NestedSubckt));
+            return Err(Stop::At(Cause::NestedSubckt));
         }
         if !self.cell_names.insert(card.name.bytes())? {
-            return Err(Stop::Fault(Cause::TwiceCell));
+            return Err(Stop::At(Cause::TwiceCell));
         }
         if has_twice(self.alloc, card.ports.as_slice())? {
-            return Err(Stop::Fault(Cause::TwicePort));
+            return Err(Stop::At(Cause::TwicePort));
         }
         self.places.push(self.main.items.len())?;
         self.current = Some(OpenCell {
@@ -168,10 +167,10 @@ impl Draft {
         ensures { Becomes (ends_cause (draft_held self.old).level name) (without_level (draft_held self.old)) (draft_held self.new) result }
     {
         let Some(open) = self.current.take() else {
-            return Err(Stop::Fault(Cause::StrayEnds));
+            return Err(Stop::At(Cause::StrayEnds));
         };
         if is_other(&name, &open.card.name) {
-            return Err(Stop::Fault(Cause::EndsName));
+            return Err(Stop::At(Cause::EndsName));
         }
         self.ended.push(open.into_cell())?;
         Ok(())

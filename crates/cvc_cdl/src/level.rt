@@ -4,8 +4,7 @@ ghost use Rattle.cvc_cdl.specs.Drafting.{Becomes, item_cause, level_with};
 
 use crate::names::Names;
 use crate::netlist::{Item, Items};
-use crate::stop::Stop;
-use cvc_base::Cause;
+use cvc_base::{Cause, Stop};
 use std::alloc::Global;
 
 /// The devices and instances of a level, and their names.
@@ -31,7 +30,7 @@ impl Level {
         ensures { Becomes (item_cause self.old.names item) (level_with self.old item) self.new result }
     {
         if !self.names.insert(item.name())? {
-            return Err(Stop::Fault(Cause::TwiceName));
+            return Err(Stop::At(Cause::TwiceName));
         }
         self.items.push(item)?;
         Ok(())

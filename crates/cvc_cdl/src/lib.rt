@@ -11,7 +11,6 @@ mod level;
 mod library;
 mod names;
 mod netlist;
-mod stop;
 mod text;
 
 pub use builder::Builder;
