@@ -1,5 +1,5 @@
--- The rows of a model file, or its first fault. A file has its rows where no line has a fault. Else its first fault is by line, and on one line a lexical
--- fault goes first: so a row's fault is the first exactly where its line ends before the line of the first lexical fault.
+-- The rows of a model file, or its first fault. A file has its rows where no line has a fault. Else its first fault is by line, and on one line a
+-- lexical fault goes first: so a row's fault is the first exactly where its line ends before the line of the first lexical fault.
 use Rattle.std.specs.Prelude.{ℕ, List, Result, Ok, Err}
 use Rattle.cvc_base.specs.declared.cause.Cause.{Cause}
 use Rattle.cvc_base.specs.declared.fault.Fault.{Fault}

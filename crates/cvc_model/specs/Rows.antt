@@ -87,7 +87,8 @@ volts_of kind settings = volts_with settings (corners_of kind (voltages_for (cod
 -- ## Whole rows
 
 abbrev pub row_from : ℕ → List ℕ → Kind → Content → Result ModelRow Cause
-row_from number name kind content = then_with (volts_of kind content.settings) (λ volts. Ok (record { name = name; kind = kind; volts = volts; tests = content.tests; line = number }))
+row_from number name kind content =
+    then_with (volts_of kind content.settings) (λ volts. Ok (record { name = name; kind = kind; volts = volts; tests = content.tests; line = number }))
 
 abbrev pub row_with : ℕ → List ℕ → Option Kind → List (List ℕ) → Result ModelRow Cause
 row_with number name None texts = Err UnknownKind

@@ -1,5 +1,5 @@
--- What an item `KEY=VALUE` of a row sets. The keys of the row's kind are read without regard to case. The value of Vth is one voltage, or two with one
--- `:` between them, split at the first `:`; the value of every other key is one voltage that is not negative, and a `:` is part of its text. One
+-- What an item `KEY=VALUE` of a row sets. The keys of the row's kind are read without regard to case. The value of Vth is one voltage, or two with
+-- one `:` between them, split at the first `:`; the value of every other key is one voltage that is not negative, and a `:` is part of its text. One
 -- voltage of Vth stands for two that are equal.
 use Rattle.std.specs.Prelude.{ℕ, ◌+◌, ◌==◌, Bool, if◌then◌else◌, List, [], ◌∷◌, take, drop, find, Option, Some, None, is_some, option_map, Result, Ok, Err, ℤ, pos, int_lt, codes}
 use Rattle.std.specs.List.{position_from}

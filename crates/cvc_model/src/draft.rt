@@ -50,7 +50,8 @@ fn with_item(kind: Kind, given: Voltages, key: &[u8], value: &[u8]) -> Result<Vo
 
 impl Draft {
     fn add_voltages(&mut self, kind: Kind, key: &[u8], value: &[u8]) -> Result<(), Stop>
-        ensures { (content : Content) → IsDraft self.old content → KeepsContent self.new result (with_settings content (with_setting kind content.settings key.now value.now)) }
+        ensures { (content : Content) → IsDraft self.old content
+            → KeepsContent self.new result (with_settings content (with_setting kind content.settings key.now value.now)) }
     {
         match with_item(kind, self.voltages, key, value) {
             Ok(voltages) => {
@@ -68,7 +69,8 @@ impl Draft {
         less: bool,
         number: &[u8],
     ) -> Result<(), Stop>
-        ensures { (content : Content) → IsDraft self.old content → KeepsContent self.new result (with_test content param.now less (number_of number.now)) }
+        ensures { (content : Content) → IsDraft self.old content
+            → KeepsContent self.new result (with_test content param.now less (number_of number.now)) }
     {
         let Ok(number) = read_number(number) else {
             return Err(Stop::At(Cause::BadRow));
