@@ -3,7 +3,6 @@
 use Rattle.std.specs.Prelude.{◌≡◌, ℕ, List, [], ◌∷◌, ◌++◌, length, map, Option, Some, None, All}
 use Rattle.std.specs.Borrow.{Bor}
 use Rattle.std.specs.Option.{option_map}
-use Rattle.cvc_base.specs.declared.fault.Fault.{Fault}
 use Rattle.cvc_base.specs.declared.fault.Refusal.{Refusal}
 use Rattle.cvc_base.specs.declared.fault.Refusal.TheVariants.{At, NoMemory}
 use Rattle.cvc_base.specs.declared.param.Pair.{Pair}
