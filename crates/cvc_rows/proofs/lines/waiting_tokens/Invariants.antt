@@ -1,5 +1,5 @@
 use Rattle.std.proofs.Common.{◌≡◌, length}
-use Rattle.cvc_rows.proofs.tests.waiting_tokens.Given as goal
+use Rattle.cvc_rows.proofs.lines.waiting_tokens.Given as goal
 
 abbrev pub invariant-loop-line : goal.invariant-loop-line
 invariant-loop-line l = l.lexer.finished ≡ l.initial.lexer.finished
