@@ -1,7 +1,7 @@
 -- The word that is printed for each cause.
 use Rattle.std.specs.Prelude.{ℕ, List, codes}
 use Rattle.cvc_base.specs.declared.cause.Cause.{Cause}
-use Rattle.cvc_base.specs.declared.cause.Cause.TheVariants.{BadByte, FileTooLong, LongLine, LongToken, StrayPlus, UnknownCard, Unsupported, BadParam, BadPins, ShortCard, NestedSubckt, StrayEnds, EndsName, TwiceCell, TwicePort, TwiceName, OpenSubckt, UnknownCell, PortCount, UnknownPort, Recursive, NoTop, TooDeep, TooManyInstances, TooManyDevices, TooManyNets, ParamLoop, BadRow, UnknownKind, UnknownKey, BadVoltage, Negative, MissingVth, MinAboveMax, TwiceRow, NoModel, ParamText, WrongKind, UnknownNet, SameNetTwice, NotBuilt}
+use Rattle.cvc_base.specs.declared.cause.Cause.TheVariants.{BadByte, FileTooLong, LongLine, LongToken, StrayPlus, UnknownCard, Unsupported, BadParam, BadPins, ShortCard, NestedSubckt, StrayEnds, EndsName, TwiceCell, TwicePort, TwiceName, OpenSubckt, UnknownCell, PortCount, UnknownPort, Recursive, NoTop, TooDeep, TooManyInstances, TooManyDevices, TooManyNets, ParamLoop, BadRow, UnknownKind, UnknownKey, BadVoltage, Negative, MissingVth, MinAboveMax, TwiceRow, NoModel, ParamText, WrongKind, UnknownNet, SameNetTwice}
 
 abbrev pub word_of : Cause → List ℕ
 word_of BadByte = codes "bad-byte"
@@ -44,4 +44,3 @@ word_of ParamText = codes "param-text"
 word_of WrongKind = codes "wrong-kind"
 word_of UnknownNet = codes "unknown-net"
 word_of SameNetTwice = codes "same-net-twice"
-word_of NotBuilt = codes "not-built"

@@ -85,8 +85,6 @@ pub enum Cause {
     UnknownNet,
     /// A power row names a net that an earlier one declared.
     SameNetTwice,
-    /// The input is none of those that the program takes so far.
-    NotBuilt,
 }
 
 impl Cause {
@@ -135,7 +133,6 @@ impl Cause {
             Cause::WrongKind => b"wrong-kind",
             Cause::UnknownNet => b"unknown-net",
             Cause::SameNetTwice => b"same-net-twice",
-            Cause::NotBuilt => b"not-built",
         }
     }
 }

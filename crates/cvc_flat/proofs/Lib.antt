@@ -2,8 +2,14 @@ pub mod Lists
 pub mod Writing
 pub mod Ways
 pub mod Groups
+pub mod Apart
 pub mod Resolving
 pub mod Stripping
 pub mod Naming
 pub mod Pieces
 pub mod Finding
+pub mod Numbering
+pub mod Growing
+pub mod Stack
+pub mod Once
+pub mod Following

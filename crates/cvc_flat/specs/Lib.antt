@@ -1,6 +1,7 @@
 pub mod Instances
 pub mod Nets
 pub mod Walk
+pub mod Left
 pub mod Params
 pub mod Places
 pub mod Flat
@@ -10,3 +11,4 @@ pub mod Held
 pub mod Names
 pub mod Tables
 pub mod Resolving
+pub mod Plans

@@ -15,6 +15,11 @@ place_of names name = position (bytes_eq name) names
 abbrev pub with_name : List (List ℕ) → List ℕ → List (List ℕ)
 with_name names name = if is_among names name then names else names ++ name ∷ []
 
+-- more names, behind those that there were
+pub record Grows (old new : List (List ℕ)) : Type 0 where
+  pub more : List (List ℕ)
+  pub is : new ≡ old ++ more
+
 -- no two numbers have one name
 abbrev pub AreApart : List (List ℕ) → Type 0
 AreApart names = (i j : ℕ) → i < length names → j < length names → slice_index_or names i [] ≡ slice_index_or names j [] → i ≡ j

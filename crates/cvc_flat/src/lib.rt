@@ -1,14 +1,17 @@
 //! The flat list of a netlist: its hierarchy resolved to nets, devices and their parameters.
-//! What a flat list is, and which netlist has which, is written in `specs/`; `Flat` answers what one holds. The walk that makes one of a
-//! netlist is not built yet.
+//! What a flat list is, and which netlist has which, is written in `specs/`; `flatten` makes one, and `Flat` answers what one holds.
 #![tactic(auto)]
 
 mod find;
 mod flat;
 mod names;
+mod nets;
+mod plan;
 mod printing;
 mod resolve;
 mod rows;
+mod walk;
 mod way;
 
 pub use flat::Flat;
+pub use walk::flatten;
