@@ -12,3 +12,4 @@ pub mod Names
 pub mod Tables
 pub mod Resolving
 pub mod Plans
+pub mod Levels

@@ -4,6 +4,7 @@
 
 mod find;
 mod flat;
+mod level;
 mod names;
 mod nets;
 mod plan;
