@@ -1,25 +1,10 @@
-//! The whole run of a check: from the words and the three files to the report or the refusal, and the status.
+//! A whole run of a check: from the files of a job, or a generated circuit, to the report or the refusal, and the status.
+//!
+//! `specs/Said` has what the files say, `specs/Outcome` the status and the text that follow.
 #![tactic(auto)]
 
-mod design;
-mod findings;
-mod forms;
-mod job;
-mod judged;
-mod labels;
-mod nets;
-mod outcome;
-mod rows;
-mod run;
-mod scan;
+mod bound;
 mod status;
 mod stop;
-mod text;
-mod words;
 
-pub use job::Job;
-pub use run::{check_serial, top};
 pub use status::Status;
-
-#[cfg(test)]
-mod tests;
