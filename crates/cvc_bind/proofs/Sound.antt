@@ -1,6 +1,5 @@
 -- A device with the pins of the flat list and the voltages of a row that fits its letter stands in a circuit.
 use Rattle.std.proofs.Common.{◌≡◌, ℕ, ◌<◌, true, List, length, All, refl, subst, ◌∙◌, sym}
-use Rattle.std.specs.Prelude.{pos, ◌≤ℤ◌}
 use Rattle.std.proofs.lemmas.List.Elements.{All-get_or}
 use Rattle.cvc_base.specs.declared.device.Kind.{Kind}
 use Rattle.cvc_base.specs.declared.device.Kind.TheVariants.{Nmos, Pmos, Resistor, Diode, Capacitor, Inductor, Bipolar}

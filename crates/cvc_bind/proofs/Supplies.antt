@@ -1,5 +1,5 @@
 -- Power rows one by one: what the rows so far declare, and the fault of the next one.
-use Rattle.std.proofs.Common.{◌≡◌, ◌≢◌, ℕ, suc, ◌+◌, ◌<◌, Bool, true, false, ◌||◌, List, [], ◌∷◌, ◌++◌, length, map, take, drop, refl, sym, ap, subst, ◌∙◌}
+use Rattle.std.proofs.Common.{◌≡◌, ◌≢◌, ℕ, ◌+◌, ◌<◌, Bool, true, false, ◌||◌, List, [], ◌∷◌, ◌++◌, length, map, take, drop, refl, sym, ap, subst, ◌∙◌}
 use Rattle.std.proofs.Common.{arith, ◌≤◌, if◌then◌else◌}
 use Rattle.std.proofs.lemmas.Grind.{common_steps}
 use Rattle.std.specs.Prelude.{All, Option, Some, None, is_some, slice_index_or, slice_set, ◌==◌, ◌≤ℤ◌}
@@ -13,7 +13,6 @@ use Rattle.cvc_base.specs.declared.cause.Cause.TheVariants.{UnknownNet, SameNetT
 use Rattle.std.specs.Prelude.{Result, Ok, Err, nat_eq}
 use Rattle.cvc_bind.specs.Putting.{put, put_at}
 use Rattle.cvc_bind.proofs.Found.{net_inside}
-use Rattle.cvc_base.specs.declared.fault.Fault.{Fault}
 use Rattle.cvc_base.specs.declared.fault.FileKind.TheVariants.{Power}
 use Rattle.cvc_base.specs.Faults.{fault_on}
 use Rattle.cvc_law.specs.declared.interval.Fixed.{Fixed}

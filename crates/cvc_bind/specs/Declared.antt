@@ -1,6 +1,6 @@
 -- What the nets of a circuit are declared at. Each power row, in order, declares the net that its name finds. A row whose name finds no net is a fault, and
 -- so is one that finds the net of an earlier row, whatever the two names are; it stands at the row's line of the power file.
-use Rattle.std.specs.Prelude.{◌≡◌, ℕ, ◌≤ℤ◌, Bool, true, false, ◌==◌, List, [], ◌∷◌, ◌++◌, length, map, Option, Some, None, Result, Ok, Err, slice_index_or, if◌then◌else◌}
+use Rattle.std.specs.Prelude.{◌≡◌, ℕ, ◌≤ℤ◌, Bool, false, ◌==◌, List, [], ◌∷◌, ◌++◌, length, map, Option, Some, None, Result, Ok, Err, slice_index_or, if◌then◌else◌}
 use Rattle.std.specs.List.{list_any, range_with_len}
 use Rattle.cvc_base.specs.declared.cause.Cause.{Cause}
 use Rattle.cvc_base.specs.declared.cause.Cause.TheVariants.{UnknownNet, SameNetTwice}

@@ -1,10 +1,9 @@
-use Rattle.std.proofs.Common.{◌≡◌, ℕ, ◌+◌, ◌<◌, ◌≤◌, List, [], ◌++◌, length, map, take, drop, refl, sym, ap, subst, ◌∙◌, arith}
-use Rattle.std.specs.Prelude.{Option, Some, None, slice_index_or, Ok, Err}
+use Rattle.std.proofs.Common.{◌≡◌, ◌<◌, ◌≤◌, length, map, drop, refl, sym, ap, subst, ◌∙◌, arith}
+use Rattle.std.specs.Prelude.{Option, None, slice_index_or, Ok, Err}
 use Rattle.std.specs.List.{range_with_len}
 use Rattle.std.proofs.lemmas.Grind.{common_steps}
 use Rattle.std.proofs.lemmas.List.{take_at}
 use Rattle.cvc_base.specs.declared.fault.Fault.{Fault}
-use Rattle.cvc_law.specs.declared.interval.Fixed.{Fixed}
 use Rattle.cvc_bind.specs.Declared.{declared, unless_fault}
 use Rattle.cvc_bind.specs.Putting.{put}
 use Rattle.cvc_bind.proofs.Supplies.{refused, more, all_nets, no_row_left, ordered_nets}

@@ -1,5 +1,4 @@
-use Rattle.std.proofs.Common.{◌≡◌, ◌<◌, true, length, arith, sym}
-use Rattle.std.specs.Prelude.{slice_get, Some}
+use Rattle.std.proofs.Common.{◌≡◌, ◌<◌, true, length, arith}
 use Rattle.std.proofs.lemmas.Option.{slice_get_read}
 use Rattle.cvc_bind.specs.Devices.{fits}
 use Rattle.cvc_flat.specs.Held.{device}
