@@ -15,7 +15,7 @@ use Rattle.cvc_core.specs.Store.{IsReady, held_reads}
 use Rattle.cvc_core.specs.Scale.{LiesBetween}
 
 module _ (c : Network) (r : Run) (ready : IsReady c r) where
-  offer_is : (k : ℕ) → k < 4 → offer c r k ≡ reach_of c (k % 2) (given c (device_of c r) k (held_reads c r))
+  pub offer_is : (k : ℕ) → k < 4 → offer c r k ≡ reach_of c (k % 2) (given c (device_of c r) k (held_reads c r))
   offer_is k lt = reach_of_given c (held r) ready.in_range (device_of c r) k lt (device_sound c ready.circuit r.device.0 ready.run.device).drop
 
   -- in millivolts it is the bound of what the slot gives as a reach
