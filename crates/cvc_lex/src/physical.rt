@@ -48,7 +48,7 @@ pub(crate) fn file_limit(file: FileKind) -> usize
 pub(crate) fn is_blank(byte: u8) -> bool
     ensures { result ≡ blank_of byte }
 {
-    byte == b' ' || byte == b'\t'
+    (byte == b' ') | (byte == b'\t')
 }
 
 fn is_bad(byte: u8) -> bool

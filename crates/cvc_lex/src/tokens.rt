@@ -13,17 +13,17 @@ use std::alloc::Global;
 // The most bytes of a token.
 const TOKEN_LIMIT: usize = 1024;
 
-// Whether the byte is a token of its own.
+// Whether the byte is a token of its own. The tests of bytes are without a branch, so that loops look at many bytes together.
 fn is_alone(file: FileKind, byte: u8) -> bool
     ensures { result ≡ alone_in file byte }
 {
-    is_netlist(file) && byte == b'='
+    is_netlist(file) & (byte == b'=')
 }
 
 fn is_word(file: FileKind, byte: u8) -> bool
     ensures { result ≡ word_in file byte }
 {
-    !is_blank(byte) && !is_alone(file, byte)
+    !is_blank(byte) & !is_alone(file, byte)
 }
 
 // Whether all bytes of the block are bytes of words.
@@ -31,7 +31,6 @@ fn is_word(file: FileKind, byte: u8) -> bool
 fn is_words(file: FileKind, block: &[u8]) -> bool
     ensures { result ≡ list_all (word_in file) block.now }
 {
-    // without a branch, so that many bytes are looked at together
     let mut words = true;
     for byte in block {
         words &= is_word(file, *byte);
