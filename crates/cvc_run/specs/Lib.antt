@@ -5,3 +5,5 @@ pub mod Shelves
 pub mod Stops
 pub mod Outside
 pub mod Outcome
+pub mod Judged
+pub mod Telling

@@ -13,12 +13,20 @@ use Rattle.cvc_report.specs.Summary.{summary}
 use Rattle.cvc_run.specs.Outside.{Taken, Outcome, EndsAs, SinkFailed}
 use Rattle.cvc_run.specs.Said.{Refused, Whole, bound_of, bound_of_job}
 use Rattle.cvc_run.specs.declared.status.Status.{Status}
-use Rattle.cvc_run.specs.declared.status.Status.TheVariants.{Clean, Errors, NoMemory}
+use Rattle.cvc_run.specs.declared.status.Status.TheVariants.{Clean, Errors, Words, ReadFault, WriteFault, NoMemory}
 use Rattle.cvc_words.specs.declared.command.Job.{Job}
 
 abbrev pub status_of : List Finding → Status
 status_of [] = Clean
 status_of (x ∷ xs) = Errors
+
+-- the statuses that say something of the files
+abbrev pub IsOfFiles : Status → Type 0
+IsOfFiles Words = ⊥
+IsOfFiles ReadFault = ⊥
+IsOfFiles WriteFault = ⊥
+IsOfFiles NoMemory = ⊥
+IsOfFiles _ = Unit {0}
 
 -- how a run ends that tells accepted input so, by its least family
 abbrev pub IsEnd : (Whole → List Interval → List ℕ) → Result Whole Refused → Outcome
@@ -33,9 +41,9 @@ report_of with_nets w f = report w.circuit w.flat f with_nets
 abbrev pub IsJobOutcome : Files → Job → Outcome
 IsJobOutcome fs job = IsEnd (report_of job.nets) (bound_of_job fs job)
 
--- the outcome of a job, where the files are told
+-- The outcome of a job. Where the files aren't told, it is still one of files, and none of words.
 abbrev pub JobOutcome : Option Files → Job → Outcome
-JobOutcome files job status text = IfSome files (λ fs. IsJobOutcome fs job status text)
+JobOutcome files job status text = IsOfFiles status × IfSome files (λ fs. IsJobOutcome fs job status text)
 
 -- ## A survey of a generated circuit
 
@@ -57,3 +65,7 @@ IsAnswered outcome t status = (status ≡ NoMemory) ⊎ (((status ≡ Clean) ⊎
 -- unless the outside failed
 abbrev pub AcceptedIsAnswered : Outcome → Result Whole Refused → Type 0 → Taken → Status → Type 0
 AcceptedIsAnswered outcome said failed t status = (w : Whole) → said ≡ Ok w → (failed → ⊥) → (SinkFailed t → ⊥) → IsAnswered outcome t status
+
+-- of a job, where the files are told
+abbrev pub JobIsAnswered : Option Files → Job → Type 0 → Taken → Status → Type 0
+JobIsAnswered files job failed t status = (fs : Files) → files ≡ Some fs → AcceptedIsAnswered (JobOutcome files job) (bound_of_job fs job) failed t status

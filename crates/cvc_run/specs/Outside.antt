@@ -1,10 +1,8 @@
 -- The outside before and after a run: the faults of the shelf by name, what the sink took, and the sink's faults. And what a run may answer: its
 -- outcome with the whole text, a fault of the outside that came in this run, or want of memory.
-use Rattle.std.specs.Prelude.{◌≡◌, ℕ, List, take, Option}
+use Rattle.std.specs.Prelude.{◌≡◌, ℕ, List, take, Option, ◌⊎◌}
 use Rattle.std.specs.Io.KnownBytes.{append_known}
 use Rattle.cvc_io.specs.Causes.{Rose}
-use Rattle.cvc_io.specs.Files.{Counts}
-use Rattle.cvc_run.specs.Due.{Reading, DueFailed}
 use Rattle.cvc_run.specs.declared.status.Status.{Status}
 use Rattle.cvc_run.specs.declared.status.Status.TheVariants.{ReadFault, WriteFault, NoMemory}
 
@@ -29,6 +27,10 @@ WroteFront t text = (n : ℕ) × Wrote t (take n text)
 
 abbrev pub SinkFailed : Taken → Type 0
 SinkFailed t = Rose t.faults_before t.faults_after
+
+-- a text was told: with this status and whole, or a fault of the sink and a front of it
+abbrev pub Ends : Status → List ℕ → Taken → Status → Type 0
+Ends status text t result = ((result ≡ status) × Wrote t text) ⊎ ((result ≡ WriteFault) × SinkFailed t × WroteFront t text)
 
 -- an outcome: which status and text a run has
 abbrev pub Outcome : Type 1

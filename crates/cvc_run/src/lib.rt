@@ -4,7 +4,11 @@
 #![tactic(auto)]
 
 mod bound;
+mod judged;
+mod run;
 mod status;
 mod stop;
+mod telling;
 
+pub use run::{check, check_serial, survey};
 pub use status::Status;

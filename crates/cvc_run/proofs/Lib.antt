@@ -1,0 +1,4 @@
+pub mod Refusing
+pub mod Ending
+pub mod Answering
+pub mod Told
