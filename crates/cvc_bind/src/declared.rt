@@ -1,6 +1,8 @@
 //! What the nets are declared at.
 ghost use Rattle.std.specs.Prelude.{◌≡◌, ◌≤◌, length, All, IfErr, IfOk, OnOk};
 ghost use Rattle.cvc_base.specs.Answers.{Gives};
+ghost use Rattle.cvc_base.specs.Faults.{fault_on};
+ghost use Rattle.cvc_base.specs.declared.fault.FileKind.TheVariants.{Power};
 ghost use Rattle.cvc_bind.specs.Declared.{AreOrdered, fixed_of, span_of};
 ghost use Rattle.cvc_bind.specs.Putting.{put};
 ghost use Rattle.cvc_power.specs.Power.{IsOrdered};
@@ -38,6 +40,12 @@ fn declare(flat: &Flat, fixed: &mut [Option<Fixed>], row: &PowerRow) -> Result<(
     Ok(())
 }
 
+fn row_fault(row: &PowerRow, cause: Cause) -> Fault
+    ensures { result ≡ fault_on Power row.now.line cause }
+{
+    Fault::at(FileKind::Power, row.line, cause)
+}
+
 /// What each net is declared at, or the first fault among the rows.
 pub(crate) fn declared(
     alloc: Global,
@@ -53,8 +61,7 @@ pub(crate) fn declared(
     let mut fixed = vec![in alloc; None; flat.nets() as usize]?;
     for row in power.as_slice() {
         if let Err(cause) = declare(flat, &mut fixed, row) {
-            let fault = Fault::at(FileKind::Power, row.line, cause);
-            return Err(Refusal::At(fault));
+            return Err(Refusal::At(row_fault(row, cause)));
         }
     }
     Ok(fixed)

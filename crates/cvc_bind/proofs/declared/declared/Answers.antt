@@ -29,7 +29,7 @@ returns-in-Err-clause-fixed c =
     let here : slice_index_or rows i row ≡ row = subst (λ l. slice_index_or l i row ≡ row) all (sym c.row-item.is) in
     let bad : put f c.loop-row.fixed.items row ≡ Err c.in-Err.cause = ap (λ l. put f l row) (sym c.deref_mut.ensures.value) ∙ c.in-Err.ensures.refused in
     let first = c.loop-row.invariant.fine ∙ refused f rows i row inside here c.loop-row.fixed.items c.loop-row.invariant.sized c.loop-row.invariant.found c.in-Err.cause bad in
-    ap (λ (o : Option Fault). unless_fault o (map (declared f rows) (range_with_len 0 (length f.nets)))) first ∙ ap Err (sym c.at-fault.ensures)
+    ap (λ (o : Option Fault). unless_fault o (map (declared f rows) (range_with_len 0 (length f.nets)))) first ∙ ap Err (sym c.row_fault.ensures)
 
 pub loop-row-preserved : goal.loop-row-preserved
 loop-row-preserved c =
