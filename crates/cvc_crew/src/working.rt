@@ -71,7 +71,8 @@ pub fn work<R: Threads + Wait + Sync, G: Gate>(
     ensures quiet { IfOk result (λ g. is_quiet g.trail ≡ true) }
     ensures unworked { IfErr result (λ e. e.hand ≡ hand) }
 {
-    let Ok(mut deques) = Deques::new(alloc, workers_for(hand.numbers())) else {
+    let workers = workers_for(hand.numbers());
+    let Ok(mut deques) = Deques::new(alloc, workers) else {
         return Err(Unworked { hand });
     };
     Ok(work_with(rt, circuit, field, hand, gate, &mut deques))

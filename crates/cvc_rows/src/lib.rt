@@ -4,6 +4,8 @@
 #[cfg(test)]
 mod cards;
 #[cfg(test)]
+mod crew;
+#[cfg(test)]
 mod fields;
 #[cfg(test)]
 mod lines;
