@@ -3,5 +3,8 @@ pub mod Said
 pub mod Due
 pub mod Shelves
 pub mod Stops
+pub mod Loads
+pub mod Reader
+pub mod Rests
 pub mod Outside
 pub mod Outcome

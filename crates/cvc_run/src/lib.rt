@@ -4,7 +4,12 @@
 #![tactic(auto)]
 
 mod bound;
+mod load;
+mod netlist;
+mod stages;
 mod status;
 mod stop;
 
+pub use load::{LoadFault, load_file};
+pub use stages::{Design, load_design};
 pub use status::Status;
