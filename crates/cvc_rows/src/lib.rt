@@ -10,6 +10,8 @@ mod fields;
 #[cfg(test)]
 mod lines;
 #[cfg(test)]
+mod loads;
+#[cfg(test)]
 mod netlists;
 #[cfg(test)]
 mod rules;
