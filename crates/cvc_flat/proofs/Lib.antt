@@ -20,3 +20,13 @@ pub mod Marks
 pub mod Entered
 pub mod Causes
 pub mod Openings
+pub mod Givens
+pub mod Pigeons
+pub mod Chains
+pub mod Loops
+pub mod Indexing
+pub mod Sighting
+pub mod Listing
+pub mod Sighted
+pub mod Plainly
+pub mod Seeing
