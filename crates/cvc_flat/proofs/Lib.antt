@@ -30,3 +30,4 @@ pub mod Listing
 pub mod Sighted
 pub mod Plainly
 pub mod Seeing
+pub mod Listed

@@ -17,4 +17,5 @@ pub mod Planning
 pub mod Making
 pub mod PairIndexes
 pub mod Sights
+pub mod PairLists
 pub mod Plain

@@ -9,6 +9,7 @@ mod level;
 mod names;
 mod nets;
 mod pair_index;
+mod pair_lists;
 mod params;
 mod plain;
 mod plan;
