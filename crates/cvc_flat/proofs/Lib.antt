@@ -20,3 +20,5 @@ pub mod Marks
 pub mod Entered
 pub mod Causes
 pub mod Openings
+pub mod Whole
+pub mod States

@@ -23,7 +23,7 @@ use std::alloc::Global;
 pub(crate) struct Mark<'n> {
     pub instance: u32,
     pub cell: &'n Cell,
-    pub plan: u32,
+    pub plan: usize,
     pub next: usize,
 }
 
@@ -57,7 +57,7 @@ fn walk(alloc: Global, source: &Source<'_>, nets: NetTable) -> Result<Walked, Re
     let mut mark = Mark {
         instance: 0,
         cell: source.top,
-        plan: source.plan.top,
+        plan: source.plan.top as usize,
         next: 0,
     };
     'visits: loop {
@@ -70,7 +70,7 @@ fn walk(alloc: Global, source: &Source<'_>, nets: NetTable) -> Result<Walked, Re
             continue 'visits;
         }
         let item = mark.cell.items.get(mark.next);
-        let plans = &source.plan.cells[mark.plan as usize];
+        let plans = &source.plan.cells[mark.plan];
         mark.next += 1;
         match (item, &plans.items[mark.next - 1]) {
             (Item::Device(card), ItemPlan::Device(number, device)) => {
@@ -99,7 +99,7 @@ fn walk(alloc: Global, source: &Source<'_>, nets: NetTable) -> Result<Walked, Re
                 mark = Mark {
                     instance,
                     cell,
-                    plan: *plan,
+                    plan: *plan as usize,
                     next: 0,
                 };
                 continue 'visits;
