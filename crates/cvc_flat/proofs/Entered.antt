@@ -36,7 +36,7 @@ ways_push : (rows : List InstanceRow) (r : InstanceRow) → ways_of (rows ++ r �
 unfolding ways_of ways_from
 ways_push rows r = ways_append ([] ∷ []) rows (r ∷ [])
 
-ways_count : (rows : List InstanceRow) → length (ways_of rows) ≡ 1 + length rows
+pub ways_count : (rows : List InstanceRow) → length (ways_of rows) ≡ 1 + length rows
 unfolding ways_of
 ways_count rows = length_ways ([] ∷ []) rows
 

@@ -31,3 +31,6 @@ pub mod Sighted
 pub mod Plainly
 pub mod Seeing
 pub mod Listed
+pub mod Whole
+pub mod States
+pub mod Seen

@@ -2,7 +2,7 @@
 use Rattle.std.proofs.Common.{◌≡◌, ℕ, zero, suc, ◌+◌, ◌<◌, ◌≤◌, ◌||◌, Bool, true, false, List, [], ◌∷◌, ◌++◌, length, map, get_or, take, refl, sym, ap, subst, ◌∙◌, append_assoc, length-append, arith}
 use Rattle.std.proofs.Common.{cond, not}
 use Rattle.std.specs.declared.alloc.Global.{Global}
-use Rattle.std.specs.Prelude.{All, Result, Ok, Err, IfOk, MatchOption, Vec, Option, Some, None, find, nat_lt, position, slice_get, if◌then◌else◌}
+use Rattle.std.specs.Prelude.{All, IfSome, IsTrue, Result, Ok, Err, IfOk, MatchOption, Vec, Option, Some, None, find, nat_lt, position, slice_get, if◌then◌else◌}
 use Rattle.std.specs.List.{AllByRecursion, AllZip, IsDistinct, list_any, position_or_len}
 use Rattle.std.specs.Str.{bytes_eq}
 use Rattle.std.specs.Cmp.Lexicographic.{bytes_decides}
@@ -139,7 +139,7 @@ device_stays a b card number plan g p = record {
 }
 
 -- an element of a list that isn't empty
-element : {A : Type 0} (xs : List A) (k : ℕ) → k < length xs → (x : A) × (x ≡ get_or xs k x)
+pub element : {A : Type 0} (xs : List A) (k : ℕ) → k < length xs → (x : A) × (x ≡ get_or xs k x)
 element [] k h = absurd (omega arith)
 element (x ∷ xs) zero h = (x, refl)
 element (x ∷ xs) (suc k) h = element xs k (omega arith)
@@ -279,3 +279,30 @@ pub device_item : {E : Type 0} (n : Netlist) (k : Cards) (item : Item) (card : D
     → IfOk result (IsItemPlan n k item)
 device_item n k item card (Ok plan) e h = subst (λ i. IsItemPlan n k i plan) (sym e) (h n)
 device_item n k item card (Err x) e h = tt
+
+named_none : (cells : List Cell) (name : List ℕ) → is_among (map name_of_cell cells) name ≡ true → cell_named cells name ≡ None → ⊥
+named_none [] name a e = absurd (false≢true a)
+named_none (c ∷ cells) name a e = by (bytes_eq name c.name) a e (named_none cells name)
+  where
+    by : (b : Bool) → (b || is_among (map name_of_cell cells) name) ≡ true → cond b (Some c) (cell_named cells name) ≡ None → (is_among (map name_of_cell cells) name ≡ true → cell_named cells name ≡ None → ⊥) → ⊥
+    by true a e later = cc
+    by false a e later = later a e
+
+-- the top is a cell
+pub top_named : (cells : List Cell) (top : Option (List ℕ)) (name : List ℕ) → top ≡ Some name → IfSome top (λ x. IsTrue (is_among (map name_of_cell cells) x)) → cell_named cells name ≡ None → ⊥
+top_named cells top name e h none = named_none cells name (subst (λ (o : Option (List ℕ)). IfSome o (λ x. IsTrue (is_among (map name_of_cell cells) x))) e h) none
+
+-- ## The whole plan
+
+pub names_front : (a b : List (List ℕ)) (k : ℕ) → Grows a b → k ≡ length a → take k b ≡ a
+names_front a b k g e = ap (λ i. take i b) e ∙ ap (take (length a)) g.is ∙ take_front a g.more
+  where
+    take_front : (xs ys : List (List ℕ)) → take (length xs) (xs ++ ys) ≡ xs
+    take_front [] ys = refl
+    take_front (x ∷ xs) ys = ap (λ l. x ∷ l) (take_front xs ys)
+
+pub openings_grow : (a b : List (List ℕ)) (os : List OpeningPlan) → Grows a b → All (λ (x : OpeningPlan). x.name < length a) os → map (opening_of b) os ≡ map (opening_of a) os
+openings_grow a b os g h = map_alike (opening_of b) (opening_of a) os (λ k d l j. opening_at (get_or os k d).line (grows_text a b (get_or os k d).name g (h k d l) j))
+
+pub opened_grow : (a b : List (List ℕ)) (os : List OpeningPlan) → Grows a b → All (λ (x : OpeningPlan). x.name < length a) os → All (λ (x : OpeningPlan). x.name < length b) os
+opened_grow a b os g h = λ k d l. let w = h k d l in let m = grows_length a b g in omega (arith, w, m)

@@ -27,7 +27,7 @@ use std::alloc::Global;
 pub(crate) struct Mark<'n> {
     pub instance: u32,
     pub cell: &'n Cell,
-    pub plan: u32,
+    pub plan: usize,
     pub next: usize,
 }
 
@@ -70,7 +70,7 @@ fn walk<'n>(
     let mut mark = Mark {
         instance: 0,
         cell: source.top,
-        plan: source.plan.top,
+        plan: source.plan.top as usize,
         next: 0,
     };
     'visits: loop {
@@ -83,8 +83,8 @@ fn walk<'n>(
             continue 'visits;
         }
         let item = mark.cell.items.get(mark.next);
-        let plans = &source.plan.cells[mark.plan as usize];
-        let lists = &source.lists[mark.plan as usize];
+        let plans = &source.plan.cells[mark.plan];
+        let lists = &source.lists[mark.plan];
         mark.next += 1;
         match (item, &plans.items[mark.next - 1]) {
             (Item::Device(card), ItemPlan::Device(number, device)) => {
@@ -106,7 +106,7 @@ fn walk<'n>(
                     parent: mark.instance,
                     card: *number,
                 };
-                let instance = enter(&mut instances, above.len(), row, card.line)?;
+                let instance = enter(&mut instances, sight.depth(), row, card.line)?;
                 let cell = cell_of(source.netlist, *plan);
                 let lists = Lists {
                     card: lists.items[mark.next - 1],
@@ -117,7 +117,7 @@ fn walk<'n>(
                 mark = Mark {
                     instance,
                     cell,
-                    plan: *plan,
+                    plan: *plan as usize,
                     next: 0,
                 };
                 continue 'visits;

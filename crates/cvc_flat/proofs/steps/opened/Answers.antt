@@ -10,6 +10,7 @@ use Rattle.cvc_flat.specs.Making.{known_nets}
 use Rattle.cvc_flat.specs.Nets.{Net}
 use Rattle.cvc_flat.specs.Planning.{opening_of}
 use Rattle.cvc_flat.proofs.Openings.{fault_opened, fault_past, known_length, nets_to, next_known, no_opening_fault, opened_inside, opened_row, opens_none, refuses_opening}
+use Rattle.cvc_flat.specs.contracts.nets.NetTable.{the_row}
 use Rattle.cvc_flat.proofs.steps.opened.Goals as goal
 
 abbrev no_opening : OpeningPlan
@@ -65,7 +66,7 @@ returns-then-len-gt-NETS-clause-refused c =
     let is : o ≡ get_or os i o = ap (λ (l : List OpeningPlan). opening_of names (get_or l i no_opening)) c.deref-opening-items.ensures.value ∙ sym (get_or-map (opening_of names) p.openings.items i no_opening o below) in
     let old : List Net = known_nets p.cards [] c.loop-opening.nets in
     let one : known_nets p.cards [] c.number.new.self ≡ nets_once old (o.net ∷ []) = ap (known_nets p.cards []) c.in_ok-number.ensures.nets ∙ opened_row p c.requires.apart c.loop-opening.nets op.name (all i no_opening c.loop-opening-test.true) inv.within in
-    refuses_opening _ (opening_fault limits [] os) c.refused.result (fault_at o.line TooManyNets) c.refused.ensures
+    refuses_opening (the_row).Denot (opening_fault limits [] os) c.refused.result (fault_at o.line TooManyNets) c.refused.ensures
     (inv.fault ∙ fault_opened os i o inside is old (omega (arith, ap length one, known_length p c.requires.apart c.number.new.self, c.len.ensures, c.if-len-gt-NETS.true)))
 
 pub returns-clause-refused : goal.returns-clause-refused
