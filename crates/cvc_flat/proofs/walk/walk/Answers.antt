@@ -16,6 +16,7 @@ use Rattle.cvc_flat.specs.Planning.{IsInstPlan, IsItemPlan}
 use Rattle.cvc_flat.specs.Tables.{path_of, way_at, ways_of}
 use Rattle.cvc_flat.proofs.States.{added_same, cause_same, fault_device, fault_instance, here, item_formed, item_planned, items_planned, path_here, plan_inside, same_item, state_begins, state_device, state_done, state_entered, state_pops}
 use Rattle.cvc_flat.proofs.walk.walk.Goals as goal
+use Rattle.cvc_flat.proofs.walk.walk.Goals.{in_default-2-via-in-Device+in_default, in_default-2-via-in-Inst+in_default}
 
 pub visits-init : goal.visits-init
 visits-init c =
@@ -242,4 +243,8 @@ visits-preserved c =
     (sym (ap (λ d. option_map (fault_at c.in-Inst-Inst.card.line) (instance_cause_in limits (length rows) (d + 1))) deep) ∙ e.refused) e.room (omega (arith, deep, e.short)) refl c.cell_of-cell.ensures refl refl e.number refl refl refl
 
 pub unreachable-requires : goal.unreachable-requires
-unreachable-requires c = ?
+unreachable-requires c =
+    elim c.in_default-2.branch [
+      | in_default-2-via-in-Device+in_default w ↦ (let h = w.in_default-2 in ?)
+      | in_default-2-via-in-Inst+in_default w ↦ (let h = w.in_default-2 in ?)
+    ]
