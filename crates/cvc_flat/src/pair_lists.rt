@@ -18,6 +18,12 @@ pub(crate) struct CellLists {
     pub items: Vec<u32>,
 }
 
+// The numbers of the lists of all cells, those of the main level last.
+#[derive(Drop)]
+pub(crate) struct PairLists {
+    pub cells: Vec<CellLists>,
+}
+
 // The number of a list; an empty one is that of this number.
 fn list_of(
     alloc: Global,
@@ -90,21 +96,21 @@ fn cell_lists(
     Ok(CellLists { own, items })
 }
 
-// The numbers of all cells' lists, those of the main level last, in time linear in the netlist.
+// The numbers of all lists, in time linear in the netlist.
 pub(crate) fn lists_of(
     alloc: Global,
     netlist: &Netlist,
     sight: &mut Sight<'_>,
-) -> Result<Vec<CellLists>, NoMemory>
+) -> Result<PairLists, NoMemory>
     requires sight { IsSight sight.old }
     ensures more { IfOk result (λ lists. ListsMore sight.old sight.new) }
-    ensures listed { IfOk result (λ lists. AreListed sight.new.indexes (all_cells netlist.now) lists.items) }
+    ensures listed { IfOk result (λ lists. AreListed sight.new.indexes (all_cells netlist.now) lists.cells.items) }
 {
     let empty = sight.add(alloc, &[])?;
-    let mut lists = Vec::new(alloc);
+    let mut cells = Vec::new(alloc);
     for cell in netlist.cells.as_slice() {
-        lists.push(cell_lists(alloc, sight, empty, cell)?)?;
+        cells.push(cell_lists(alloc, sight, empty, cell)?)?;
     }
-    lists.push(cell_lists(alloc, sight, empty, &netlist.main)?)?;
-    Ok(lists)
+    cells.push(cell_lists(alloc, sight, empty, &netlist.main)?)?;
+    Ok(PairLists { cells })
 }

@@ -17,7 +17,7 @@ ghost use Rattle.cvc_flat.specs.Tables.{AreWaysApart, IsSound, IsTree, path_of, 
 
 use crate::cards::Plan;
 use crate::nets::NetTable;
-use crate::pair_lists::CellLists;
+use crate::pair_lists::PairLists;
 use crate::params::Sight;
 use crate::plan::DevicePlan;
 use crate::resolve::net_row;
@@ -34,7 +34,7 @@ pub(crate) struct Source<'n> {
     pub netlist: &'n Netlist,
     pub top: &'n Cell,
     pub plan: &'n Plan,
-    pub lists: &'n [CellLists],
+    pub lists: &'n PairLists,
 }
 
 // The nets and devices of a walk so far.

@@ -51,7 +51,7 @@ fn walk<'n>(
     requires sight { IsSight start }
     requires same { start.netlist.now ≡ source.now.netlist.now }
     requires outside { start.levels.items ≡ [] }
-    requires lists { AreListed start.indexes (all_cells source.now.netlist.now) source.now.lists.now }
+    requires lists { AreListed start.indexes (all_cells source.now.netlist.now) source.now.lists.now.cells.items }
     requires nets { known_nets source.now.plan.now.cards [] nets ≡ nets_behind source.now.netlist.now [] }
     requires within { All (λ r. (r.instance ≤ 0) × (r.name < length source.now.plan.now.cards.names)) nets }
     requires room { length nets ≤ 1000000 }
@@ -84,7 +84,7 @@ fn walk<'n>(
         }
         let item = mark.cell.items.get(mark.next);
         let plans = &source.plan.cells[mark.plan];
-        let lists = &source.lists[mark.plan];
+        let lists = &source.lists.cells[mark.plan];
         mark.next += 1;
         match (item, &plans.items[mark.next - 1]) {
             (Item::Device(card), ItemPlan::Device(number, device)) => {
@@ -108,12 +108,13 @@ fn walk<'n>(
                 };
                 let instance = enter(&mut instances, sight.depth(), row, card.line)?;
                 let cell = cell_of(source.netlist, *plan);
-                let lists = Lists {
+                let used = &source.lists.cells[*plan as usize];
+                let numbers = Lists {
                     card: lists.items[mark.next - 1],
-                    cell: source.lists[*plan as usize].own,
+                    cell: used.own,
                 };
                 above.push(mark)?;
-                sight.enter(Level { card, cell }, lists)?;
+                sight.enter(Level { card, cell }, numbers)?;
                 mark = Mark {
                     instance,
                     cell,

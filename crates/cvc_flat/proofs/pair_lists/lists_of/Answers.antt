@@ -9,7 +9,7 @@ use Rattle.cvc_flat.proofs.pair_lists.lists_of.Goals as goal
 pub loop-cell-init : goal.loop-cell-init
 loop-cell-init c = record {
   more = more_none c.add.new.self c.in_ok-empty.ensures.sight;
-  listed = subst (AreListed c.add.new.self.indexes []) (sym c.new-lists.ensures.items) tt;
+  listed = subst (AreListed c.add.new.self.indexes []) (sym c.new-cells.ensures.items) tt;
 }
 
 pub cell_lists-requires-clause-empty : goal.cell_lists-requires-clause-empty
@@ -25,8 +25,8 @@ loop-cell-preserved c =
     let lists = c.in_ok-cell_lists.ensures in
     record {
       more = more_twice c.add.new.self old new inv.more lists.more;
-      listed = zip_more (IsCellListed new.indexes) cells i c.cell-item.result c.loop-cell.lists.items c.push.new.self.items c.in_ok-cell_lists.field-0 c.loop-cell-test.true c.cell-item.is c.in_ok-push.ensures.items
-          (cells_stay old new (take i cells) c.loop-cell.lists.items lists.more inv.listed) lists.listed;
+      listed = zip_more (IsCellListed new.indexes) cells i c.cell-item.result c.loop-cell.cells.items c.push.new.self.items c.in_ok-cell_lists.field-0 c.loop-cell-test.true c.cell-item.is c.in_ok-push.ensures.items
+          (cells_stay old new (take i cells) c.loop-cell.cells.items lists.more inv.listed) lists.listed;
     }
 
 pub cell_lists-requires-2-clause-empty : goal.cell_lists-requires-2-clause-empty
@@ -45,6 +45,6 @@ returns-clause-listed c =
     let new = c.cell_lists-2.new.sight in
     let cells = c.as_slice-cell-items.result.now in
     let lists = c.in_ok-cell_lists-2.ensures in
-    let before = subst (λ cs. AreListed old.indexes cs c.loop-cell.lists.items) (take_all c.loop-cell.cell-index cells (omega (arith, c.loop-cell-test.false)) ∙ c.as_slice-cell-items.ensures) c.loop-cell.invariant.listed in
+    let before = subst (λ cs. AreListed old.indexes cs c.loop-cell.cells.items) (take_all c.loop-cell.cell-index cells (omega (arith, c.loop-cell-test.false)) ∙ c.as_slice-cell-items.ensures) c.loop-cell.invariant.listed in
     subst (AreListed new.indexes (all_cells n)) (sym c.in_ok-push-2.ensures.items)
-    (zip_push (IsCellListed new.indexes) n.cells c.loop-cell.lists.items n.main c.in_ok-cell_lists-2.field-0 (cells_stay old new n.cells c.loop-cell.lists.items lists.more before) lists.listed)
+    (zip_push (IsCellListed new.indexes) n.cells c.loop-cell.cells.items n.main c.in_ok-cell_lists-2.field-0 (cells_stay old new n.cells c.loop-cell.cells.items lists.more before) lists.listed)

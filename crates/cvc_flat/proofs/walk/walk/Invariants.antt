@@ -6,7 +6,7 @@ use Rattle.cvc_flat.proofs.walk.walk.Given as goal
 abbrev pub invariant-visits : goal.invariant-visits
 invariant-visits l = record {
   state : IsState l.source.netlist.now l.source.plan.now l.instances.items l.made l.sight.levels.items l.mark l.above.items;
-  sees : Sees l.source.netlist.now l.source.lists.now l.sight;
+  sees : Sees l.source.netlist.now l.source.lists.now.cells.items l.sight;
 }
 
 abbrev pub decreases-visits : goal.decreases-visits
