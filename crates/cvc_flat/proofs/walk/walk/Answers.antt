@@ -244,7 +244,24 @@ visits-preserved c =
 
 pub unreachable-requires : goal.unreachable-requires
 unreachable-requires c =
+    let n = c.args.source.now.netlist.now in
+    let p = c.args.source.now.plan.now in
+    let rows = c.visits.instances.items in
+    let made = c.visits.made in
+    let levels = c.visits.levels.items in
+    let mark = c.visits.mark in
+    let above = c.visits.above.items in
+    let s = c.visits.invariant in
+    let inside : mark.next < length mark.cell.now.items = omega (arith, c.len.ensures, c.if-mark-len.false) in
+    let item = c.get-item.result.now in
+    let k = c.index-plans.result.now in
+    let i = c.index.result.now in
+    let back : mark.next + 1 - 1 ≡ mark.next = omega arith in
+    let at : i ≡ get_or k.items.items mark.next i = c.index.ensures ∙ ap (λ j. get_or k.items.items j i) back in
+    let planned : IsItemPlan n p.cards item i = item_planned n p rows made levels mark above s c.requires.plan k item i c.index-plans.ensures inside c.get-item.ensures at in
     elim c.in_default-2.branch [
-      | in_default-2-via-in-Device+in_default w ↦ (let h = w.in_default-2 in ?)
-      | in_default-2-via-in-Inst+in_default w ↦ (let h = w.in_default-2 in ?)
+      | in_default-2-via-in-Device+in_default w ↦
+          subst (λ it. IsItemPlan n p.cards it (plans.Inst w.in_default-2.field-0-1 w.in_default-2.field-1-1)) w.in_default-2.is-0 (subst (IsItemPlan n p.cards item) w.in_default-2.is-1 planned)
+      | in_default-2-via-in-Inst+in_default w ↦
+          subst (λ it. IsItemPlan n p.cards it (plans.Device w.in_default-2.field-0-1 w.in_default-2.field-1-1)) w.in_default-2.is-0 (subst (IsItemPlan n p.cards item) w.in_default-2.is-1 planned)
     ]
