@@ -201,13 +201,7 @@ fn cell_plans(
     for cell in netlist.cells.as_slice() {
         plans.push(cell_plan(alloc, netlist, names, cards, cell.items.as_slice())?)?;
     }
-    plans.push(cell_plan(
-        alloc,
-        netlist,
-        names,
-        cards,
-        netlist.main.items.as_slice(),
-    )?)?;
+    plans.push(cell_plan(alloc, netlist, names, cards, netlist.main.items.as_slice())?)?;
     Ok(plans)
 }
 

@@ -47,8 +47,11 @@ pub(crate) struct Made {
 
 // The most instances, names on a path, devices and nets.
 const INSTANCES: usize = 1_000_000;
+
 const NAMES: usize = 64;
+
 const DEVICES: usize = 500_000;
+
 const NETS: usize = 1_000_000;
 
 // A refusal at a line of the netlist.
@@ -160,7 +163,13 @@ pub(crate) fn place<'n>(
     if made.devices.len() >= DEVICES {
         return Err(refused(card.line, Cause::TooManyDevices));
     }
-    let pins = pins_of(source.plan, instances, &mut made.nets, instance, &device.nets)?;
+    let pins = pins_of(
+        source.plan,
+        instances,
+        &mut made.nets,
+        instance,
+        &device.nets,
+    )?;
     if made.nets.len() > NETS {
         return Err(refused(card.line, Cause::TooManyNets));
     }

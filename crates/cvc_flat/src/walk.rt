@@ -139,12 +139,7 @@ fn top_name(alloc: Global, top: &Option<Text>) -> Result<Option<Text>, NoMemory>
 }
 
 // The flat list of what a walk has made.
-fn list_of(
-    alloc: Global,
-    netlist: &Netlist,
-    plan: Plan,
-    walked: Walked,
-) -> Result<Flat, NoMemory>
+fn list_of(alloc: Global, netlist: &Netlist, plan: Plan, walked: Walked) -> Result<Flat, NoMemory>
     requires sound { IsSound (tables_of netlist.now plan walked.instances.items walked.made) }
     ensures { IfOk result (λ flat. flat ≡ held_of (tables_of netlist.now plan walked.instances.items walked.made)) }
 {

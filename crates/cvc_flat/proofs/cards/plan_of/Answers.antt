@@ -20,7 +20,7 @@ returns c =
     let top = c.cell_of.ensures ∙ c.in_ok-top.ensures.top in
     record {
       apart = c.len.ensures.apart;
-      name_count = omega (arith, c.len.ensures.count, c.if-len-gt-MAX.false);
+      name_count = omega (arith, c.len.ensures.count, c.if-len.false);
       below = omega (arith, c.len-globals.ensures.count, grows_length first cards.names all);
       globals = names_front first cards.names c.len-globals.result all c.len-globals.ensures.count ∙ c.in_ok-names.ensures ∙ ap (map name_of_global) globals;
       cards = c.in_ok-plans.ensures.sound;
