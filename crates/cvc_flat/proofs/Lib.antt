@@ -13,6 +13,13 @@ pub mod Growing
 pub mod Stack
 pub mod Once
 pub mod Following
+pub mod Planned
+pub mod Numbered
+pub mod Added
+pub mod Marks
+pub mod Entered
+pub mod Causes
+pub mod Openings
 pub mod Givens
 pub mod Pigeons
 pub mod Chains
@@ -23,3 +30,7 @@ pub mod Listing
 pub mod Sighted
 pub mod Plainly
 pub mod Seeing
+pub mod Listed
+pub mod Whole
+pub mod States
+pub mod Seen

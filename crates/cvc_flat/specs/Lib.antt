@@ -13,6 +13,9 @@ pub mod Tables
 pub mod Resolving
 pub mod Plans
 pub mod Levels
+pub mod Planning
+pub mod Making
 pub mod PairIndexes
 pub mod Sights
+pub mod PairLists
 pub mod Plain

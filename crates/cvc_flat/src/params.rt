@@ -96,6 +96,13 @@ impl<'n> Sight<'n> {
         self.indexes.add(alloc, pairs)
     }
 
+    // How many levels there are.
+    pub(crate) fn depth(&self) -> usize
+        ensures { result ≡ length self.now.levels.items }
+    {
+        self.levels.len()
+    }
+
     // One level more, whose card and cell have the lists of these numbers.
     pub(crate) fn enter(&mut self, level: Level<'n>, lists: Lists) -> Result<(), NoMemory>
         requires sight { IsSight self.old }
