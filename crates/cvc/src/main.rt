@@ -1,4 +1,4 @@
-//! The program `cvc`: a voltage-aware check of a transistor netlist. `cvc_run::top` does all of it; this file only hands over the words, the
+//! The program `cvc`: a voltage-aware check of a transistor netlist. `cvc_top::top` does all of it; this file only hands over the words, the
 //! files and standard output.
 #![tactic(auto)]
 
@@ -6,7 +6,7 @@ ghost use Rattle.std.specs.Iterator.{IsFinite};
 
 use cvc_base::{NoMemory, Text, Texts};
 use cvc_io::{FileShelf, StdSink};
-use cvc_run::{Status, top};
+use cvc_top::{Status, top};
 use std::alloc::Global;
 use std::env;
 use std::io::ErrorKind;
