@@ -6,7 +6,7 @@ ghost use Rattle.cvc_law.specs.Reach.{device_at};
 ghost use Rattle.cvc_law.specs.ReachWord.{IsInMillion};
 ghost use Rattle.cvc_core.specs.declared.actor.Actor.TheVariants.{Running};
 ghost use Rattle.cvc_core.specs.State.{run_of};
-ghost use Rattle.cvc_core.specs.Steps.{next_debt};
+ghost use Rattle.cvc_core.specs.Steps.{next_debt, is_queued};
 ghost use Rattle.cvc_core.specs.State.{debt_of};
 ghost use Rattle.cvc_field.specs.Runs.{Goes, GoesNoting, IsGiving, MayGive, IsOwing, IsMarking, debt_from, given_run, with_debt};
 ghost use Rattle.cvc_field.specs.Seats.{IsSeatOf};
@@ -19,6 +19,13 @@ use crate::words::value_word;
 use atomic_table::Seat;
 use cvc_base::{DevId, NetId};
 use cvc_law::{Reads, gives};
+
+/// Whether a mark is Queued, by itself or beside Running.
+fn says_queued(mark: u64) -> bool
+    ensures { result ≡ is_queued mark }
+{
+    mark % 2 == 1
+}
 
 impl<'c> Field<'c> {
     /// A second credit, if there is none to spare.
@@ -45,7 +52,7 @@ impl<'c> Field<'c> {
         ensures goes { Goes seat.old.me.0 seat.new.me.0 (if result then [] else d ∷ []) }
     {
         let found = self.set_queued(seat, d);
-        found % 2 == 1
+        says_queued(found)
     }
 
     /// Takes a credit if there is none to spare, marks the device that the run owes next, and notes it if it is newly queued.
