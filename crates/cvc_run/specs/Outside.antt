@@ -3,8 +3,6 @@
 use Rattle.std.specs.Prelude.{◌≡◌, ℕ, List, take, Option}
 use Rattle.std.specs.Io.KnownBytes.{append_known}
 use Rattle.cvc_io.specs.Causes.{Rose}
-use Rattle.cvc_io.specs.Files.{Counts}
-use Rattle.cvc_run.specs.Due.{Reading, DueFailed}
 use Rattle.cvc_run.specs.declared.status.Status.{Status}
 use Rattle.cvc_run.specs.declared.status.Status.TheVariants.{ReadFault, WriteFault, NoMemory}
 
