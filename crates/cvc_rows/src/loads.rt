@@ -3,7 +3,7 @@ ghost use Rattle.cvc_io.specs.Memory.{standing_of};
 
 use cvc_base::{Cause, Fault, FileKind, NoMemory, Text};
 use cvc_io::MemShelf;
-use cvc_run::{LoadFault, load_design, load_file};
+use cvc_run::{Design, LoadFault, load_design, load_file};
 use std::alloc::Global;
 use std::test::Fail;
 
@@ -21,14 +21,14 @@ fn loaded(
     Ok(load_file(alloc, &name, limit, shelf))
 }
 
-// Why the netlist `n` and the models `m` are not loaded.
-fn design_fault(alloc: Global, shelf: &mut MemShelf) -> Result<Option<LoadFault>, NoMemory>
+// Loads the netlist `n` and the models `m`.
+fn designed(alloc: Global, shelf: &mut MemShelf) -> Result<Result<Design, LoadFault>, NoMemory>
     requires { standing_of shelf.old ≡ None }
     ensures { standing_of shelf.new ≡ None }
 {
     let netlist = Text::of(alloc, b"n")?;
     let models = Text::of(alloc, b"m")?;
-    Ok(load_design(alloc, &netlist, &models, None, shelf).err())
+    Ok(load_design(alloc, &netlist, &models, None, shelf))
 }
 
 #[test]
@@ -84,7 +84,7 @@ fn a_fault_of_the_first_piece_is_answered_before_the_next_is_read(
     let mut shelf = MemShelf::new(alloc);
     shelf.add(b"n", &netlist)?;
     shelf.fail_at(3)?;
-    let fault = design_fault(alloc, &mut shelf)?;
+    let fault = designed(alloc, &mut shelf)?.err();
     assert!(rt; fault == Some(LoadFault::At(Fault::at(FileKind::Netlist, 1, Cause::BadByte))));
     Ok(())
 }
