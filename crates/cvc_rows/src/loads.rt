@@ -34,8 +34,6 @@ fn designed(alloc: Global, shelf: &mut MemShelf) -> Result<Result<Design, LoadFa
 #[test]
 fn a_file_is_loaded_up_to_a_byte_past_its_limit(rt: HostRuntime) -> Result<(), Fail> {
     let alloc = rt.alloc();
-    let mut shelf = MemShelf::new(alloc);
-    shelf.add(b"n", b"four")?;
     for (limit, wanted) in [
         (9, b"four".as_slice()),
         (4, b"four".as_slice()),
@@ -43,6 +41,8 @@ fn a_file_is_loaded_up_to_a_byte_past_its_limit(rt: HostRuntime) -> Result<(), F
         (2, b"fou".as_slice()),
         (0, b"f".as_slice()),
     ] {
+        let mut shelf = MemShelf::new(alloc);
+        shelf.add(b"n", b"four")?;
         match loaded(alloc, &mut shelf, limit)? {
             Ok(text) => assert_eq!(rt; text.bytes(), wanted, "at {limit}"),
             Err(_) => return Err(Fail::new("not loaded")),
