@@ -3,7 +3,7 @@ ghost use Rattle.cvc_io.specs.Memory.{standing_of};
 
 use cvc_base::{Cause, Fault, FileKind, NoMemory, Text};
 use cvc_io::MemShelf;
-use cvc_run::{LoadFault, load_design, load_file};
+use cvc_run::{Design, LoadFault, load_design, load_file};
 use std::alloc::Global;
 use std::test::Fail;
 
@@ -21,21 +21,19 @@ fn loaded(
     Ok(load_file(alloc, &name, limit, shelf))
 }
 
-// Why the netlist `n` and the models `m` are not loaded.
-fn design_fault(alloc: Global, shelf: &mut MemShelf) -> Result<Option<LoadFault>, NoMemory>
+// Loads the netlist `n` and the models `m`.
+fn designed(alloc: Global, shelf: &mut MemShelf) -> Result<Result<Design, LoadFault>, NoMemory>
     requires { standing_of shelf.old ≡ None }
     ensures { standing_of shelf.new ≡ None }
 {
     let netlist = Text::of(alloc, b"n")?;
     let models = Text::of(alloc, b"m")?;
-    Ok(load_design(alloc, &netlist, &models, None, shelf).err())
+    Ok(load_design(alloc, &netlist, &models, None, shelf))
 }
 
 #[test]
 fn a_file_is_loaded_up_to_a_byte_past_its_limit(rt: HostRuntime) -> Result<(), Fail> {
     let alloc = rt.alloc();
-    let mut shelf = MemShelf::new(alloc);
-    shelf.add(b"n", b"four")?;
     for (limit, wanted) in [
         (9, b"four".as_slice()),
         (4, b"four".as_slice()),
@@ -43,6 +41,8 @@ fn a_file_is_loaded_up_to_a_byte_past_its_limit(rt: HostRuntime) -> Result<(), F
         (2, b"fou".as_slice()),
         (0, b"f".as_slice()),
     ] {
+        let mut shelf = MemShelf::new(alloc);
+        shelf.add(b"n", b"four")?;
         match loaded(alloc, &mut shelf, limit)? {
             Ok(text) => assert_eq!(rt; text.bytes(), wanted, "at {limit}"),
             Err(_) => return Err(Fail::new("not loaded")),
@@ -84,7 +84,7 @@ fn a_fault_of_the_first_piece_is_answered_before_the_next_is_read(
     let mut shelf = MemShelf::new(alloc);
     shelf.add(b"n", &netlist)?;
     shelf.fail_at(3)?;
-    let fault = design_fault(alloc, &mut shelf)?;
+    let fault = designed(alloc, &mut shelf)?.err();
     assert!(rt; fault == Some(LoadFault::At(Fault::at(FileKind::Netlist, 1, Cause::BadByte))));
     Ok(())
 }

@@ -1,14 +1,11 @@
 -- A circuit that is bound from a flat list has the nets and the devices of that list.
-use Rattle.std.proofs.Common.{◌≡◌, ℕ, List, [], ◌∷◌, length, map, Option, Some, None, Result, Ok, Err, refl, sym, ap, subst, ◌∙◌, cond, Bool, true, false}
-use Rattle.std.specs.Prelude.{IfOk, slice_get}
+use Rattle.std.proofs.Common.{◌≡◌, List, [], ◌∷◌, length, map, Option, Some, None, Result, Ok, Err, refl, sym, ap, subst, ◌∙◌, cond, Bool, true, false}
+use Rattle.std.specs.Prelude.{slice_get}
 use Rattle.std.specs.List.{range_with_len}
 use Rattle.std.proofs.lemmas.List.FromFn.{length-map-range_with_len}
-use Rattle.cvc_base.specs.Answers.{Gives}
 use Rattle.cvc_base.specs.declared.cause.Cause.{Cause}
-use Rattle.cvc_base.specs.declared.cause.Cause.TheVariants.{NoModel, ParamText, WrongKind}
+use Rattle.cvc_base.specs.declared.cause.Cause.TheVariants.{WrongKind}
 use Rattle.cvc_base.specs.declared.fault.Fault.{Fault}
-use Rattle.cvc_base.specs.declared.fault.Refusal.{Refusal}
-use Rattle.cvc_base.specs.declared.fault.Refusal.TheVariants.{At, NoMemory}
 use Rattle.cvc_base.specs.declared.ids.NetId.{NetId}
 use Rattle.cvc_base.specs.Verdicts.{in_front, rows_or_fault}
 use Rattle.cvc_bind.specs.Bound.{circuit_of, then_declared, with_fixed}
@@ -24,7 +21,6 @@ use Rattle.cvc_model.specs.declared.models.Choice.TheVariants.{Chosen, Nothing, 
 use Rattle.cvc_model.specs.declared.row.ModelRow.{ModelRow}
 use Rattle.cvc_model.specs.Chosen.{choice_of}
 use Rattle.cvc_power.specs.declared.row.PowerRow.{PowerRow}
-use Rattle.cvc_power.specs.Power.{IsOrdered}
 
 abbrev pub pins_in_list : FlatDevice → List NetId
 pins_in_list d = d.pins

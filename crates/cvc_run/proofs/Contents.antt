@@ -1,6 +1,6 @@
 -- What the files of a run say, one by one.
-use Rattle.std.proofs.Common.{◌≡◌, ℕ, ◌<◌, ◌≤◌, All, List, length, get_or, Option, Some, None, Result, Ok, Err, refl, sym, ap, subst, ◌∙◌, arith, inl, inr, ◌⊎◌}
-use Rattle.std.specs.Prelude.{IfOk, IfSome, slice_get}
+use Rattle.std.proofs.Common.{◌≡◌, ℕ, ◌<◌, ◌≤◌, All, List, length, get_or, Option, Some, None, Result, Ok, Err, sym, ap, subst, ◌∙◌, inl, inr, ◌⊎◌}
+use Rattle.std.specs.Prelude.{IfOk, slice_get}
 use Rattle.std.proofs.lemmas.Option.{get_or_from_slice_get, slice_get_cases}
 use Rattle.cvc_base.specs.Answers.{Gives, IfAt}
 use Rattle.cvc_base.specs.declared.fault.Fault.{Fault}
@@ -11,7 +11,7 @@ use Rattle.cvc_bind.specs.Declared.{AreSpans}
 use Rattle.cvc_cdl.specs.declared.netlist.Netlist.{Netlist}
 use Rattle.cvc_cdl.specs.File.{file_of, then_with}
 use Rattle.cvc_flat.specs.Flat.{FlatList, flat_of, limits}
-use Rattle.cvc_io.specs.Files.{Files, content}
+use Rattle.cvc_io.specs.Files.{Files}
 use Rattle.cvc_model.specs.declared.row.ModelRow.{ModelRow}
 use Rattle.cvc_model.specs.Models.{models_of, verdict as model_verdict}
 use Rattle.cvc_power.specs.declared.row.PowerRow.{PowerRow}

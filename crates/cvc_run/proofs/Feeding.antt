@@ -1,5 +1,5 @@
 -- A netlist that is read in pieces: what a piece, and the end, decide of it.
-use Rattle.std.proofs.Common.{◌≡◌, ℕ, All, Bool, true, false, List, [], ◌∷◌, ◌++◌, length, Option, Some, None, Result, Ok, Err, refl, sym, ap, subst, ◌∙◌, append-nil, append_assoc}
+use Rattle.std.proofs.Common.{◌≡◌, ℕ, All, true, false, List, [], ◌++◌, length, Option, Some, None, Result, Ok, Err, refl, sym, ap, subst, ◌∙◌, append-nil, append_assoc}
 use Rattle.std.specs.Prelude.{IfOk, OnOk}
 use Rattle.cvc_base.specs.Answers.{Gives, IfAt, Refuses, refusal_in}
 use Rattle.cvc_base.specs.declared.fault.Fault.{Fault}
@@ -16,7 +16,7 @@ use Rattle.cvc_lex.proofs.Faults.{at_end_stays, so_far_stays}
 use Rattle.cvc_lex.proofs.Tokened.{at_end_tokens, so_far_tokens}
 use Rattle.cvc_cdl.specs.declared.netlist.Netlist.{Netlist}
 use Rattle.cvc_cdl.specs.Builder.{Building, HasBuilt, StandsFor as BuilderStandsFor}
-use Rattle.cvc_cdl.specs.Building.{building_fault, or_else}
+use Rattle.cvc_cdl.specs.Building.{or_else}
 use Rattle.cvc_cdl.specs.Ending.{ending_fault, reading_of, unless_fault}
 use Rattle.cvc_cdl.specs.File.{ended, entries_from, entries_of, file_of, then_lexical, then_with}
 use Rattle.cvc_cdl.specs.Levels.{Entry}

@@ -1,13 +1,13 @@
 -- From the answers of readers to those of loads, and from these to those of the steps of a run.
-use Rattle.std.proofs.Common.{◌≡◌, ℕ, List, Option, Some, None, Result, Ok, Err, refl, sym, ap, subst, ◌∙◌}
-use Rattle.std.specs.Prelude.{IfOk, IfSome}
+use Rattle.std.proofs.Common.{◌≡◌, ℕ, List, Option, Some, None, Result, Ok, Err, sym, ap, subst, ◌∙◌}
+use Rattle.std.specs.Prelude.{IfOk}
 use Rattle.cvc_base.specs.Answers.{Gives, IfAt as IfReaderAt}
 use Rattle.cvc_base.specs.declared.fault.Fault.{Fault}
 use Rattle.cvc_base.specs.declared.fault.Refusal.{Refusal}
 use Rattle.cvc_base.specs.declared.fault.Refusal.TheVariants as refusals
 use Rattle.cvc_io.specs.Files.{Files, content}
-use Rattle.cvc_run.specs.Loads.{IfAt, IsNeverAt, Loads, OfContent, UnreadOnlyWhere, as_load, as_step, load_fault_of, run_stop_of}
-use Rattle.cvc_run.specs.Said.{Refused as RefusedBy, refused_with, step, then}
+use Rattle.cvc_run.specs.Loads.{IfAt, Loads, OfContent, UnreadOnlyWhere, as_load, as_step, load_fault_of}
+use Rattle.cvc_run.specs.Said.{Refused as RefusedBy, step, then}
 use Rattle.cvc_run.specs.Stops.{ReadOnlyWhere, Says}
 use Rattle.cvc_run.specs.declared.load.LoadFault.{LoadFault}
 use Rattle.cvc_run.specs.declared.load.LoadFault.TheVariants.{At, Read, NoMemory}

@@ -1,13 +1,12 @@
 -- A netlist that is read from a file that stands open.
-use Rattle.std.proofs.Common.{◌≡◌, ℕ, ◌+◌, ◌≤◌, Bool, true, false, List, [], ◌++◌, length, take, Option, Some, None, Result, Ok, Err, refl, sym, ap, subst, ◌∙◌, arith}
+use Rattle.std.proofs.Common.{◌≡◌, ℕ, ◌+◌, ◌≤◌, List, ◌++◌, length, take, Option, Some, None, Err, sym, ap, subst, ◌∙◌}
 use Rattle.std.proofs.lemmas.List.{length-append, length-take-le}
 use Rattle.cvc_base.specs.declared.fault.Fault.{Fault}
 use Rattle.cvc_base.specs.declared.fault.FileKind.TheVariants.{Netlist as NetlistFile}
 use Rattle.cvc_cdl.specs.declared.netlist.Netlist.{Netlist}
 use Rattle.cvc_cdl.specs.File.{file_of}
 use Rattle.cvc_io.specs.Files.{Files, Standing, Takes}
-use Rattle.cvc_lex.specs.Bytes.{file_limit}
-use Rattle.cvc_lex.specs.Lexing.{HasRead as LexerHasRead, StandsFor, fault_in}
+use Rattle.cvc_lex.specs.Lexing.{HasRead as LexerHasRead, fault_in}
 use Rattle.cvc_lex.specs.Lines.{closed_so_far, sure_fault}
 use Rattle.cvc_lex.proofs.Faults.{sure_none}
 use Rattle.cvc_run.specs.Loads.{IfAt, Loads, OfContent}

@@ -1,5 +1,5 @@
 -- Lines whose cards go to a builder one by one: what they say behind the cards before them.
-use Rattle.std.proofs.Common.{◌≡◌, ℕ, List, [], ◌∷◌, ◌++◌, Option, Some, None, Result, Ok, Err, refl, sym, ap, subst, ◌∙◌, append-nil, append_assoc}
+use Rattle.std.proofs.Common.{◌≡◌, List, [], ◌∷◌, ◌++◌, Option, Some, None, Result, Ok, Err, refl, sym, ap, subst, ◌∙◌, append-nil, append_assoc}
 use Rattle.std.specs.Prelude.{OnOk}
 use Rattle.cvc_base.specs.Answers.{IfAt, Refuses, refusal_in}
 use Rattle.cvc_base.specs.declared.cause.Cause.{Cause}
@@ -14,7 +14,7 @@ use Rattle.cvc_card.specs.Refused.{IsRefused}
 use Rattle.cvc_cdl.specs.Builder.{Building, HasBuilt, StandsFor, entry_of}
 use Rattle.cvc_cdl.specs.Building.{building_fault, fault_of, or_else}
 use Rattle.cvc_cdl.specs.Ending.{unless_fault}
-use Rattle.cvc_cdl.specs.File.{entries_from, entry_at, entry_with, judged_entry, then_with}
+use Rattle.cvc_cdl.specs.File.{entries_from, entry_at, entry_with, then_with}
 use Rattle.cvc_cdl.specs.Levels.{Entry}
 use Rattle.cvc_cdl.proofs.Placing.{first_fault-push}
 use Rattle.cvc_run.specs.Reader.{Builds, Passes, StopsAt}

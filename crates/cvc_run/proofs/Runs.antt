@@ -1,5 +1,5 @@
 -- What the steps of a run answer over the files of a shelf, where it tells them.
-use Rattle.std.proofs.Common.{◌≡◌, ℕ, Bool, true, List, [], ◌∷◌, Option, Some, None, Result, Ok, Err, refl, sym, ap, subst, ◌∙◌}
+use Rattle.std.proofs.Common.{◌≡◌, ℕ, List, [], ◌∷◌, Option, Some, None, Result, Ok, Err}
 use Rattle.std.specs.Prelude.{IfSome}
 use Rattle.cvc_flat.specs.Flat.{FlatList}
 use Rattle.cvc_flat.specs.Held.{Held}
@@ -11,7 +11,7 @@ use Rattle.cvc_power.specs.declared.row.PowerRow.{PowerRow}
 use Rattle.cvc_power.specs.Power.{power_of}
 use Rattle.cvc_run.specs.Due.{DueFailed, design_readings, job_readings, reading}
 use Rattle.cvc_run.specs.Loads.{Loads, OfContent, as_step}
-use Rattle.cvc_run.specs.Said.{Parts, Whole, bound_of, bound_of_job, bound_with, design_of, flat_of_file, parts, step, whole}
+use Rattle.cvc_run.specs.Said.{Parts, Whole, bound_of_job, bound_with, design_of, flat_of_file, parts, step, whole}
 use Rattle.cvc_run.specs.Stops.{Says}
 use Rattle.cvc_run.specs.declared.bound.Bound.{Bound}
 use Rattle.cvc_run.specs.declared.load.LoadFault.{LoadFault}

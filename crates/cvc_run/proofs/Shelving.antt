@@ -1,13 +1,10 @@
 -- What is known of a shelf behind several calls: of the counts of failures, and of the file that stood open.
-use Rattle.std.proofs.Common.{◌≡◌, ℕ, ◌+◌, ◌≤◌, List, [], ◌++◌, length, take, Option, Some, None, refl, sym, ap, subst, ◌∙◌, append-nil, append_assoc, arith}
-use Rattle.std.specs.Prelude.{IfSome, IsSome, IsSomeAnd, MatchOption}
-use Rattle.std.specs.Option.{option_map}
+use Rattle.std.proofs.Common.{◌≡◌, ℕ, ◌≤◌, List, ◌++◌, Option, Some, None, refl, sym, ap, subst, ◌∙◌, append_assoc, arith}
+use Rattle.std.specs.Prelude.{IfSome}
 use Rattle.std.specs.Io.KnownBytes.{prepend_known}
 use Rattle.cvc_io.specs.Causes.{Rose}
-use Rattle.cvc_io.specs.Files.{Counts, Files, IsAtEnd, IsOpened, NoneFalls, RoseFor, Standing, Takes, content, with_front}
-use Rattle.cvc_run.specs.Loads.{OfContent}
+use Rattle.cvc_io.specs.Files.{Standing, Takes, with_front}
 use Rattle.cvc_run.specs.Rests.{OfRest}
-use Rattle.cvc_run.specs.Shelves.{Leaves}
 
 -- ## Counts
 

@@ -1,5 +1,5 @@
 -- The steps of a run one after another: what they say together, and which of their files are due.
-use Rattle.std.proofs.Common.{◌≡◌, ℕ, ◌≤◌, Bool, true, List, [], ◌∷◌, length, map, Option, Some, None, Result, Ok, Err, refl, sym, ap, subst, ◌∙◌, inl, inr, ◌⊎◌}
+use Rattle.std.proofs.Common.{◌≡◌, ℕ, true, List, ◌∷◌, length, map, Option, Some, None, Result, Ok, Err, refl, sym, ap, subst, ◌∙◌, inl, inr}
 use Rattle.std.specs.Prelude.{IfOk, IfSome, is_ok}
 use Rattle.cvc_base.specs.Answers.{Gives}
 use Rattle.cvc_base.specs.declared.fault.Fault.{Fault}
@@ -7,25 +7,23 @@ use Rattle.cvc_base.specs.declared.fault.Refusal.{Refusal}
 use Rattle.cvc_bind.specs.Bound.{circuit_of}
 use Rattle.cvc_flat.specs.Flat.{FlatList}
 use Rattle.cvc_io.specs.Causes.{Rose}
-use Rattle.cvc_io.specs.Files.{Counts, Files, NoneFalls, content}
+use Rattle.cvc_io.specs.Files.{Counts, Files, content}
 use Rattle.cvc_law.specs.Bound.{IsBound}
 use Rattle.cvc_law.specs.Network.{Network}
 use Rattle.cvc_model.specs.declared.row.ModelRow.{ModelRow}
 use Rattle.cvc_model.specs.Models.{models_of}
 use Rattle.cvc_power.specs.declared.row.PowerRow.{PowerRow}
 use Rattle.cvc_power.specs.Power.{power_of}
-use Rattle.cvc_run.specs.Due.{DueFailed, IsDue, Reading, design_readings, is_accepted, reading}
-use Rattle.cvc_run.specs.Loads.{Loads, LoadsAll, OfContent, as_load, as_step, fault_of_stop}
-use Rattle.cvc_run.specs.Said.{Parts, Refused as RefusedBy, Whole, bound_of, bound_with, design_of, flat_of_file, parts, step, then, whole}
-use Rattle.cvc_run.specs.Stops.{ReadOnlyWhere, Says}
+use Rattle.cvc_run.specs.Due.{DueFailed, Reading, is_accepted}
+use Rattle.cvc_run.specs.Loads.{Loads, OfContent, as_load, as_step}
+use Rattle.cvc_run.specs.Said.{Parts, Whole, bound_of, bound_with, design_of, flat_of_file, parts, step, then, whole}
+use Rattle.cvc_run.specs.Stops.{Says}
 use Rattle.cvc_run.specs.declared.load.LoadFault.{LoadFault}
 use Rattle.cvc_run.specs.declared.status.Status.{Status}
 use Rattle.cvc_run.specs.declared.status.Status.TheVariants.{Netlist, Models, Power, Binding}
 use Rattle.cvc_run.specs.declared.stop.RunStop.{RunStop}
-use Rattle.cvc_run.specs.declared.stop.RunStop.TheVariants as stops
 use Rattle.cvc_run.proofs.Binding.{circuit_bound, pins_in_list}
 use Rattle.cvc_run.proofs.Loading.{loads_gives, ok_in_step, says_first, says_loads, says_next}
-use Rattle.cvc_run.proofs.Shelving.{rose_later}
 
 -- ## What one step says
 

@@ -1,5 +1,5 @@
 -- The lines that wait in a lexer, behind a front of closed lines that were handed out.
-use Rattle.std.proofs.Common.{◌≡◌, ℕ, ◌+◌, ◌≤◌, All, Bool, true, false, List, [], ◌∷◌, ◌++◌, length, take, drop, Option, Some, None, Result, Ok, Err, refl, sym, ap, subst, ◌∙◌, append-nil, append_assoc, arith}
+use Rattle.std.proofs.Common.{◌≡◌, ℕ, All, List, [], ◌++◌, length, drop, Option, Some, None, Ok, Err, sym, ap, subst, ◌∙◌, append-nil, arith}
 use Rattle.std.proofs.Math.Seq.{drop-append_seam, drop-length, take-append_seam}
 use Rattle.std.proofs.lemmas.List.Elements.{All-drop, All-take}
 use Rattle.cvc_base.specs.declared.fault.Fault.{Fault}
@@ -7,7 +7,7 @@ use Rattle.cvc_base.specs.declared.fault.Refusal.{Refusal}
 use Rattle.cvc_base.specs.declared.fault.Refusal.TheVariants.{At, NoMemory}
 use Rattle.cvc_base.specs.declared.line.Line.{Line}
 use Rattle.cvc_lex.specs.Laws.{HasToken}
-use Rattle.cvc_lex.specs.Lexing.{Lexing, StandsFor, HasRead, HasLines, HasSomeLines, closed_in, fault_in}
+use Rattle.cvc_lex.specs.Lexing.{Lexing, StandsFor, HasRead, HasLines, HasSomeLines, closed_in}
 use Rattle.cvc_cdl.specs.Builder.{Building}
 use Rattle.cvc_cdl.specs.File.{entries_from}
 use Rattle.cvc_cdl.specs.Levels.{Entry}

@@ -1,6 +1,6 @@
 -- What a reader of a netlist stands for: the bytes that it was fed so far. It has passed on every line that is closed in them, none has a fault, and its
 -- builder has their cards. A fault is decided by these bytes where the netlist has it first whatever follows them.
-use Rattle.std.specs.Prelude.{◌≡◌, ℕ, false, List, [], ◌++◌, length, Option, None, Result, Ok, Err}
+use Rattle.std.specs.Prelude.{◌≡◌, ℕ, false, List, [], ◌++◌, length, Option, None, Ok, Err}
 use Rattle.cvc_base.specs.declared.fault.Fault.{Fault}
 use Rattle.cvc_base.specs.declared.fault.FileKind.TheVariants.{Netlist}
 use Rattle.cvc_base.specs.declared.line.Line.{Line}

@@ -1,4 +1,3 @@
-use Rattle.std.proofs.Common.{refl}
 use Rattle.cvc_run.proofs.Feeding.{reads_nothing}
 use Rattle.cvc_run.proofs.netlist.NetlistReader.new.Goals as goal
 
