@@ -84,7 +84,16 @@ pub(crate) fn work_all<R: Threads + Wait + Sync, G: Gate>(
     let mut front = Some(left);
     let mut back = Some(right);
     let (low, high) = members.split_at_mut(half as usize);
-    work_both(rt, shared, first, first + half, &mut front, &mut back, low, high);
+    work_both(
+        rt,
+        shared,
+        first,
+        first + half,
+        &mut front,
+        &mut back,
+        low,
+        high,
+    );
     match (front, back) {
         (Some(left), Some(right)) => shared.field.join(left, right),
         _ => unreachable!(),

@@ -78,7 +78,12 @@ fn make_turn<G: Gate>(
     ensures hand { IsKept shared.now.field.now hand.old hand.new }
     ensures quiet { result ≡ Next.End → is_quiet hand.new.trail ≡ true }
 {
-    match next_task(&mut member.tasks, shared.stealers, worker as usize, shared.devices) {
+    match next_task(
+        &mut member.tasks,
+        shared.stealers,
+        worker as usize,
+        shared.devices,
+    ) {
         Some(task) => {
             try_task(shared.field, task, hand, tray, &mut member.tally);
             Next::GoOn

@@ -44,7 +44,11 @@ impl TwoHolds {
     }
 
     fn begun(&self, worker: u32) -> &AtomicU64 {
-        if worker == 0 { &self.first } else { &self.second }
+        if worker == 0 {
+            &self.first
+        } else {
+            &self.second
+        }
     }
 
     fn wait(&self, hold: Hold) {
