@@ -43,12 +43,7 @@ fn list_of(
 }
 
 // The number of an item's list.
-fn item_list(
-    alloc: Global,
-    sight: &mut Sight<'_>,
-    empty: u32,
-    item: &Item,
-) -> Result<u32, NoMemory>
+fn item_list(alloc: Global, sight: &mut Sight<'_>, empty: u32, item: &Item) -> Result<u32, NoMemory>
     requires sight { IsSight sight.old }
     requires empty { IsListed sight.old.indexes empty [] }
     ensures more { IfOk result (λ list. ListsMore sight.old sight.new) }
