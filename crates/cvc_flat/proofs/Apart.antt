@@ -85,7 +85,7 @@ in_more n p it its q w = (w.0, or_right (bytes_eq w.0 (name_of_item it)) (list_a
 in_first : (n : Netlist) (p : Instance) (it : Item) (its : List Item) (q : Instance) → IsBehind (names_to p) (name_of_item it) q → IsIn n p (it ∷ its) q
 in_first n p it its q b = (name_of_item it, ap (λ a. a || list_any (bytes_eq (name_of_item it)) (map name_of_item its)) (bytes_same (name_of_item it)), b)
 
-instances_append : (xs ys : List Visit) → instances_behind (xs ++ ys) ≡ instances_behind xs ++ instances_behind ys
+pub instances_append : (xs ys : List Visit) → instances_behind (xs ++ ys) ≡ instances_behind xs ++ instances_behind ys
 unfolding instances_behind
 instances_append xs ys = filter_map-append instance_at xs ys
 

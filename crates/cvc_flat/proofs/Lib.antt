@@ -13,3 +13,12 @@ pub mod Growing
 pub mod Stack
 pub mod Once
 pub mod Following
+pub mod Planned
+pub mod Numbered
+pub mod Added
+pub mod Marks
+pub mod Entered
+pub mod Causes
+pub mod Openings
+pub mod Whole
+pub mod States

@@ -59,7 +59,7 @@ pieces_some p (x ∷ xs) = by (p x) (pieces_some p xs)
 
 -- ## Places by other tests
 
-first_alike : {A B : Type 0} (p : B → Bool) (f : A → B) (q : A → Bool) (xs : List A) → All (λ x. p (f x) ≡ q x) xs → position_or_len p (map f xs) ≡ position_or_len q xs
+pub first_alike : {A B : Type 0} (p : B → Bool) (f : A → B) (q : A → Bool) (xs : List A) → All (λ x. p (f x) ≡ q x) xs → position_or_len p (map f xs) ≡ position_or_len q xs
 first_alike p f q [] h = refl
 first_alike p f q (x ∷ xs) h =
     λ i. cond (not (all_head (λ y. p (f y) ≡ q y) x xs h i)) (1 + first_alike p f q xs (all_tail (λ y. p (f y) ≡ q y) x xs h) i) 0

@@ -42,7 +42,7 @@ among_place (x ∷ xs) t e = by (bytes_eq t x) refl e (among_place xs t)
     by true same h later = let first : 0 < suc (length xs) = omega arith in (0, first, (bytes_decides t x).0 same)
     by false same h later = let w = later h in let z : suc w.0 < suc (length xs) = omega (arith, w.1) in (suc w.0, z, w.2)
 
-place_among : (xs : List (List ℕ)) (t : List ℕ) (i : ℕ) → i < length xs → t ≡ get_or xs i [] → is_among xs t ≡ true
+pub place_among : (xs : List (List ℕ)) (t : List ℕ) (i : ℕ) → i < length xs → t ≡ get_or xs i [] → is_among xs t ≡ true
 place_among [] t i h e = absurd (omega arith)
 place_among (x ∷ xs) t zero h e = ap (λ b. b || is_among xs t) ((bytes_decides t x).1 e)
 place_among (x ∷ xs) t (suc i) h e = by (bytes_eq t x) (place_among xs t i (omega arith) e)

@@ -13,3 +13,5 @@ pub mod Tables
 pub mod Resolving
 pub mod Plans
 pub mod Levels
+pub mod Planning
+pub mod Making

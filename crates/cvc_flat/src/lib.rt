@@ -2,15 +2,18 @@
 //! What a flat list is, and which netlist has which, is written in `specs/`; `flatten` makes one, and `Flat` answers what one holds.
 #![tactic(auto)]
 
+mod cards;
 mod find;
 mod flat;
 mod level;
 mod names;
 mod nets;
+mod params;
 mod plan;
 mod printing;
 mod resolve;
 mod rows;
+mod steps;
 mod walk;
 mod way;
 

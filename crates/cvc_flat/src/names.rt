@@ -1,6 +1,6 @@
 //! Names by numbers.
 ghost use Rattle.std.specs.Prelude.{◌≡◌, ◌<◌, [], length, IfOk};
-ghost use Rattle.cvc_flat.specs.Names.{place_of, with_name};
+ghost use Rattle.cvc_flat.specs.Names.{AreApart, place_of, with_name};
 ghost use Rattle.cvc_flat.specs.Tables.{text};
 
 use cvc_base::NoMemory;
@@ -33,6 +33,14 @@ impl Names {
             alloc,
             set: IndexSet::new(alloc),
         }
+    }
+
+    // How many names there are.
+    pub(crate) fn len(&self) -> usize
+        ensures count { result ≡ length self.now }
+        ensures apart { AreApart self.now }
+    {
+        self.set.len()
     }
 
     // The number of a name, if it is there.

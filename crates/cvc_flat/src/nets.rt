@@ -41,6 +41,13 @@ impl NetTable {
         self.set.len()
     }
 
+    // Its nets, in order.
+    pub(crate) fn rows(&self, alloc: Global) -> Result<Vec<NetRow>, NoMemory>
+        ensures { IfOk result (λ rows. rows.items ≡ self.now) }
+    {
+        Ok(Vec::from_slice(alloc, self.set.as_slice())?)
+    }
+
     // The number of a net, if it is there.
     pub(crate) fn find(&self, row: NetRow) -> Option<usize>
         ensures { result ≡ position (is_row row) self.now }

@@ -15,7 +15,7 @@ use cvc_card::{DeviceCard, InstCard, Ports};
 use std::alloc::Global;
 
 // The number of a name.
-fn number(names: &mut Names, name: &[u8]) -> Result<u32, NoMemory>
+pub(crate) fn number(names: &mut Names, name: &[u8]) -> Result<u32, NoMemory>
     ensures grows { IfOk result (λ k. Grows names.old names.new) }
     ensures within { IfOk result (λ k. k < length names.new) }
     ensures text { IfOk result (λ k. text names.new k ≡ name.now) }

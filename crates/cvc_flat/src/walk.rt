@@ -1,23 +1,160 @@
 //! From a netlist to its flat list.
-ghost use Rattle.std.specs.Prelude.{◌≡◌, Ok, Err, IfOk};
+ghost use Rattle.std.specs.Prelude.{◌≡◌, ◌<◌, ◌≤◌, Ok, Err, IfOk, [], All, length};
+ghost use Rattle.cvc_base.specs.Answers.{IfAt, Refuses};
 ghost use Rattle.cvc_cdl.specs.WellFormed.{IsWellFormed};
-ghost use Rattle.cvc_base.specs.Answers.{IfAt};
-ghost use Rattle.cvc_flat.specs.Flat.{flat_of, limits};
+ghost use Rattle.cvc_flat.specs.Flat.{flat_of, limits, nets_behind, visits_of, walk_fault};
+ghost use Rattle.cvc_flat.specs.Instances.{cell_at};
+ghost use Rattle.cvc_flat.specs.Making.{Shows, known_nets, tables_of};
+ghost use Rattle.cvc_flat.specs.Planning.{IsPlan};
+ghost use Rattle.cvc_flat.specs.Tables.{IsSound, held_of};
 
 use crate::Flat;
-use cvc_base::Refusal;
-use cvc_cdl::Netlist;
+use crate::cards::{ItemPlan, Plan, cell_of, plan_of};
+use crate::level::Level;
+use crate::nets::NetTable;
+use crate::rows::InstanceRow;
+use crate::steps::{Made, Source, enter, opened, place};
+use cvc_base::{NoMemory, Refusal, Text};
+use cvc_cdl::{Cell, Item, Netlist};
 use std::alloc::Global;
+
+// Where the walk stands in an instance: the next item of its cell, whose plan has this number.
+#[derive(Clone, Copy)]
+pub(crate) struct Mark<'n> {
+    pub instance: u32,
+    pub cell: &'n Cell,
+    pub plan: usize,
+    pub next: usize,
+}
+
+// What a walk makes.
+#[derive(Drop)]
+struct Walked {
+    instances: Vec<InstanceRow>,
+    made: Made,
+}
+
+// Walks the whole of a netlist, where the nets of its openings are known.
+fn walk(alloc: Global, source: &Source<'_>, nets: NetTable) -> Result<Walked, Refusal>
+    requires formed { IsWellFormed source.now.netlist.now }
+    requires plan { IsPlan source.now.netlist.now source.now.plan.now }
+    requires top { source.now.top.now ≡ cell_at source.now.netlist.now [] }
+    requires nets { known_nets source.now.plan.now.cards [] nets ≡ nets_behind source.now.netlist.now [] }
+    requires within { All (λ r. (r.instance ≤ 0) × (r.name < length source.now.plan.now.cards.names)) nets }
+    requires room { length nets ≤ 1000000 }
+    ensures refused { Refuses (walk_fault limits source.now.netlist.now [] (visits_of limits source.now.netlist.now)) result }
+    ensures sound { IfOk result (λ w. IsSound (tables_of source.now.netlist.now source.now.plan.now w.instances.items w.made)) }
+    ensures shows { IfOk result (λ w. Shows source.now.netlist.now (tables_of source.now.netlist.now source.now.plan.now w.instances.items w.made) (visits_of limits source.now.netlist.now)) }
+{
+    let mut instances = Vec::new(alloc);
+    let mut made = Made {
+        nets,
+        devices: Vec::new(alloc),
+        groups: Vec::new(alloc),
+    };
+    let mut levels: Vec<Level<'_>> = Vec::new(alloc);
+    let mut above: Vec<Mark<'_>> = Vec::new(alloc);
+    let mut mark = Mark {
+        instance: 0,
+        cell: source.top,
+        plan: source.plan.top as usize,
+        next: 0,
+    };
+    'visits: loop {
+        if mark.next >= mark.cell.items.len() {
+            let Some(up) = above.pop() else {
+                return Ok(Walked { instances, made });
+            };
+            levels.pop();
+            mark = up;
+            continue 'visits;
+        }
+        let item = mark.cell.items.get(mark.next);
+        let plans = &source.plan.cells[mark.plan];
+        mark.next += 1;
+        match (item, &plans.items[mark.next - 1]) {
+            (Item::Device(card), ItemPlan::Device(number, device)) => {
+                place(
+                    alloc,
+                    source,
+                    &instances,
+                    &levels,
+                    mark.instance,
+                    card,
+                    *number,
+                    device,
+                    &mut made,
+                )?;
+                continue 'visits;
+            }
+            (Item::Inst(card), ItemPlan::Inst(number, plan)) => {
+                let row = InstanceRow {
+                    parent: mark.instance,
+                    card: *number,
+                };
+                let instance = enter(&mut instances, levels.len(), row, card.line)?;
+                let cell = cell_of(source.netlist, *plan);
+                above.push(mark)?;
+                levels.push(Level { card, cell })?;
+                mark = Mark {
+                    instance,
+                    cell,
+                    plan: *plan as usize,
+                    next: 0,
+                };
+                continue 'visits;
+            }
+            _ => unreachable!(),
+        }
+    }
+}
+
+// A copy of the top's name.
+fn top_name(alloc: Global, top: &Option<Text>) -> Result<Option<Text>, NoMemory>
+    ensures { IfOk result (λ name. name ≡ top.now) }
+{
+    match top {
+        Some(name) => Ok(Some(Text::of(alloc, name.bytes())?)),
+        None => Ok(None),
+    }
+}
+
+// The flat list of what a walk has made.
+fn list_of(alloc: Global, netlist: &Netlist, plan: Plan, walked: Walked) -> Result<Flat, NoMemory>
+    requires sound { IsSound (tables_of netlist.now plan walked.instances.items walked.made) }
+    ensures { IfOk result (λ flat. flat ≡ held_of (tables_of netlist.now plan walked.instances.items walked.made)) }
+{
+    let top = top_name(alloc, &netlist.top)?;
+    let nets = walked.made.nets.rows(alloc)?;
+    let Walked { instances, made } = walked;
+    Ok(Flat {
+        top,
+        names: plan.cards.names,
+        globals: plan.globals,
+        parts: plan.cards.parts,
+        cards: plan.cards.devices,
+        groups: made.groups,
+        instances,
+        devices: made.devices,
+        nets,
+    })
+}
 
 /// The flat list of a netlist, or its first fault in the walk: an instance too many (`TooManyInstances`) or of more than 64 names (`TooDeep`), a
 /// device too many (`TooManyDevices`), a net too many (`TooManyNets`), or a parameter of a device that leads back to itself (`ParamLoop`). The
 /// fault's line is the first of the card.
-///
-/// The walk is not built yet: it answers `NoMemory`.
-pub fn flatten(_alloc: Global, _netlist: &Netlist) -> Result<Flat, Refusal>
-    requires { IsWellFormed _netlist.now }
-    ensures flat { IfOk result (λ flat. flat_of limits _netlist.now ≡ Ok flat.list) }
-    ensures fault { IfAt result (λ fault. flat_of limits _netlist.now ≡ Err fault) }
+pub fn flatten(alloc: Global, netlist: &Netlist) -> Result<Flat, Refusal>
+    requires { IsWellFormed netlist.now }
+    ensures flat { IfOk result (λ flat. flat_of limits netlist.now ≡ Ok flat.list) }
+    ensures fault { IfAt result (λ fault. flat_of limits netlist.now ≡ Err fault) }
 {
-    Err(Refusal::NoMemory)
+    let plan = plan_of(alloc, netlist)?;
+    let nets = opened(alloc, &plan)?;
+    let source = Source {
+        netlist,
+        top: cell_of(netlist, plan.top),
+        plan: &plan,
+    };
+    let walked = walk(alloc, &source, nets)?;
+    Ok(list_of(alloc, netlist, plan, walked)?)
 }

@@ -1,0 +1,267 @@
+use Rattle.std.proofs.Common.{◌≡◌, ℕ, ◌+◌, ◌-◌, ◌<◌, ◌≤◌, ◌∷◌, ◌++◌, [], List, length, take, vec_len, get_or, refl, sym, ap, subst, ◌∙◌, arith}
+use Rattle.std.proofs.lemmas.Result.{err_from_is_err_and}
+use Rattle.std.specs.Prelude.{Err, None}
+use Rattle.std.specs.Option.{option_map}
+use Rattle.cvc_base.specs.Answers.{Refuses}
+use Rattle.cvc_cdl.specs.declared.netlist.Item.TheVariants as items
+use Rattle.cvc_cdl.specs.Building.{fault_at}
+use Rattle.cvc_cdl.specs.WellFormed.{IsFormedItem}
+use Rattle.cvc_flat.specs.declared.cards.ItemPlan.TheVariants as plans
+use Rattle.cvc_flat.specs.declared.walk.Walked.{Walked}
+use Rattle.cvc_flat.specs.Flat.{limits}
+use Rattle.cvc_flat.specs.Levels.{instance_of}
+use Rattle.cvc_flat.specs.Making.{device_cause_in, instance_cause_in, known_nets}
+use Rattle.cvc_flat.specs.Nets.{path_of as path_in}
+use Rattle.cvc_flat.specs.Planning.{IsInstPlan, IsItemPlan}
+use Rattle.cvc_flat.specs.Tables.{path_of, way_at, ways_of}
+use Rattle.cvc_flat.proofs.States.{added_same, cause_same, fault_device, fault_instance, here, item_formed, item_planned, items_planned, path_here, plan_inside, same_item, state_begins, state_device, state_done, state_entered, state_pops}
+use Rattle.cvc_flat.proofs.walk.walk.Goals as goal
+use Rattle.cvc_flat.proofs.walk.walk.Goals.{in_default-2-via-in-Device+in_default, in_default-2-via-in-Inst+in_default}
+
+pub visits-init : goal.visits-init
+visits-init c =
+    let n = c.args.source.now.netlist.now in
+    let p = c.args.source.now.plan.now in
+    state_begins n p record { nets = c.args.nets; devices = c.new.result; groups = c.new-2.result } record { instance = 0; cell = c.args.source.now.top; plan = p.top; next = 0 } c.requires.plan c.requires.top refl refl refl c.new.ensures.items c.new-2.ensures.items c.requires.nets c.requires.within c.requires.room
+    c.new-instances.result.items c.new-levels.result.items c.new-above.result.items c.new-instances.ensures.items c.new-levels.ensures.items c.new-above.ensures.items
+
+pub returns-in_default-clause-refused : goal.returns-in_default-clause-refused
+returns-in_default-clause-refused c =
+    let n = c.args.source.now.netlist.now in
+    let p = c.args.source.now.plan.now in
+    let rows = c.visits.instances.items in
+    let made = c.visits.made in
+    let levels = c.visits.levels.items in
+    let mark = c.visits.mark in
+    let above = c.visits.above.items in
+    let s = c.visits.invariant in
+    (state_done n p rows made mark levels above s (omega (arith, c.in_default.ensures.cases)) (omega (arith, c.len.ensures, c.if-mark-len.true))).1
+
+pub returns-in_default-clause-shows : goal.returns-in_default-clause-shows
+returns-in_default-clause-shows c =
+    let n = c.args.source.now.netlist.now in
+    let p = c.args.source.now.plan.now in
+    let rows = c.visits.instances.items in
+    let made = c.visits.made in
+    let levels = c.visits.levels.items in
+    let mark = c.visits.mark in
+    let above = c.visits.above.items in
+    let s = c.visits.invariant in
+    (state_done n p rows made mark levels above s (omega (arith, c.in_default.ensures.cases)) (omega (arith, c.len.ensures, c.if-mark-len.true))).0
+
+pub visits-preserved-then-mark-len : goal.visits-preserved-then-mark-len
+visits-preserved-then-mark-len c =
+    let n = c.args.source.now.netlist.now in
+    let p = c.args.source.now.plan.now in
+    let rows = c.visits.instances.items in
+    let made = c.visits.made in
+    let levels = c.visits.levels.items in
+    let mark = c.visits.mark in
+    let above = c.visits.above.items in
+    let s = c.visits.invariant in
+    let shorter : length levels - 1 ≡ vec_len c.visits.levels - 1 = omega arith in
+    state_pops n p rows made mark levels c.pop-then-mark-len.new.self.items c.in-Some.up above c.pop.new.self.items s c.in-Some.ensures.items (c.pop-then-mark-len.ensures.rest ∙ ap (λ j. take j levels) (sym shorter)) (omega (arith, c.len.ensures, c.if-mark-len.true))
+
+pub index-plans-requires : goal.index-plans-requires
+index-plans-requires c =
+    let n = c.args.source.now.netlist.now in
+    let p = c.args.source.now.plan.now in
+    let rows = c.visits.instances.items in
+    let made = c.visits.made in
+    let levels = c.visits.levels.items in
+    let mark = c.visits.mark in
+    let above = c.visits.above.items in
+    let s = c.visits.invariant in
+    omega (arith, plan_inside n p rows made levels mark above s c.requires.plan)
+
+pub index-requires : goal.index-requires
+index-requires c =
+    let n = c.args.source.now.netlist.now in
+    let p = c.args.source.now.plan.now in
+    let rows = c.visits.instances.items in
+    let made = c.visits.made in
+    let levels = c.visits.levels.items in
+    let mark = c.visits.mark in
+    let above = c.visits.above.items in
+    let s = c.visits.invariant in
+    let inside : mark.next < length mark.cell.now.items = omega (arith, c.len.ensures, c.if-mark-len.false) in
+    omega (arith, items_planned n p rows made levels mark above s c.requires.plan c.index-plans.result.now c.index-plans.ensures, inside)
+
+pub place-requires-clause-inside : goal.place-requires-clause-inside
+place-requires-clause-inside c =
+    let n = c.args.source.now.netlist.now in
+    let p = c.args.source.now.plan.now in
+    let rows = c.visits.instances.items in
+    let made = c.visits.made in
+    let levels = c.visits.levels.items in
+    let mark = c.visits.mark in
+    let above = c.visits.above.items in
+    let s = c.visits.invariant in
+    omega (arith, (here n p rows made levels mark above s).inside, ap length c.deref.ensures.value)
+
+pub place-requires-clause-path : goal.place-requires-clause-path
+place-requires-clause-path c =
+    let n = c.args.source.now.netlist.now in
+    let p = c.args.source.now.plan.now in
+    let rows = c.visits.instances.items in
+    let made = c.visits.made in
+    let levels = c.visits.levels.items in
+    let mark = c.visits.mark in
+    let above = c.visits.above.items in
+    let s = c.visits.invariant in
+    ap (λ r. path_of p.cards.names p.cards.parts.items (way_at (ways_of r) mark.instance)) c.deref.ensures.value ∙ path_here n p rows made levels mark above s ∙ ap (λ l. path_in n (instance_of l)) (sym c.deref-in-Device-Device.ensures.value)
+
+pub place-requires-clause-device : goal.place-requires-clause-device
+place-requires-clause-device c =
+    let n = c.args.source.now.netlist.now in
+    let p = c.args.source.now.plan.now in
+    let rows = c.visits.instances.items in
+    let made = c.visits.made in
+    let levels = c.visits.levels.items in
+    let mark = c.visits.mark in
+    let above = c.visits.above.items in
+    let s = c.visits.invariant in
+    let inside : mark.next < length mark.cell.now.items = omega (arith, c.len.ensures, c.if-mark-len.false) in
+    let item = c.get-item.result.now in
+    let k = c.index-plans.result.now in
+    let i = c.index.result.now in
+    let back : mark.next + 1 - 1 ≡ mark.next = omega arith in
+    let at : i ≡ get_or k.items.items mark.next i = c.index.ensures ∙ ap (λ j. get_or k.items.items j i) back in
+    let planned : IsItemPlan n p.cards item i = item_planned n p rows made levels mark above s c.requires.plan k item i c.index-plans.ensures inside c.get-item.ensures at in
+    subst (λ it. IsItemPlan n p.cards it (plans.Device c.in-Device-Device.number c.in-Device-Device.device)) c.in-Device-Device.is-0 (subst (IsItemPlan n p.cards item) c.in-Device-Device.is-1 planned)
+
+pub place-requires-clause-formed : goal.place-requires-clause-formed
+place-requires-clause-formed c =
+    let n = c.args.source.now.netlist.now in
+    let p = c.args.source.now.plan.now in
+    let rows = c.visits.instances.items in
+    let made = c.visits.made in
+    let levels = c.visits.levels.items in
+    let mark = c.visits.mark in
+    let above = c.visits.above.items in
+    let s = c.visits.invariant in
+    let inside : mark.next < length mark.cell.now.items = omega (arith, c.len.ensures, c.if-mark-len.false) in
+    subst (IsFormedItem n.cells) c.in-Device-Device.is-0 (item_formed n p rows made levels mark above s c.requires.plan c.requires.formed c.get-item.result.now inside c.get-item.ensures)
+
+pub returns-in_err-place-in-Device-Device-clause-refused : goal.returns-in_err-place-in-Device-Device-clause-refused
+returns-in_err-place-in-Device-Device-clause-refused c =
+    let n = c.args.source.now.netlist.now in
+    let p = c.args.source.now.plan.now in
+    let rows = c.visits.instances.items in
+    let made = c.visits.made in
+    let levels = c.visits.levels.items in
+    let mark = c.visits.mark in
+    let above = c.visits.above.items in
+    let s = c.visits.invariant in
+    let inside : mark.next < length mark.cell.now.items = omega (arith, c.len.ensures, c.if-mark-len.false) in
+    let is : get_or mark.cell.now.items mark.next (items.Device c.in-Device-Device.card) ≡ items.Device c.in-Device-Device.card = same_item mark.cell.now.items mark.next c.get-item.result.now (items.Device c.in-Device-Device.card) c.get-item.ensures c.in-Device-Device.is-0 in
+    let w = err_from_is_err_and c.from_residual.result c.from_residual.ensures.1 in
+    rw (w.1, w.2) (fault_device n p rows made levels mark above s inside (Unit {0}) Walked c.in-Device-Device.card c.in_err-place-in-Device-Device.field-0.0 is
+    (cause_same (Unit {0}) n p c.deref.result.now rows made levels c.deref-in-Device-Device.result.now c.in-Device-Device.card (Err c.in_err-place-in-Device-Device.field-0.0) c.deref.ensures.value c.deref-in-Device-Device.ensures.value c.in_err-place-in-Device-Device.ensures.refused))
+
+pub visits-preserved-in-Device-Device : goal.visits-preserved-in-Device-Device
+visits-preserved-in-Device-Device c =
+    let n = c.args.source.now.netlist.now in
+    let p = c.args.source.now.plan.now in
+    let rows = c.visits.instances.items in
+    let made = c.visits.made in
+    let levels = c.visits.levels.items in
+    let mark = c.visits.mark in
+    let above = c.visits.above.items in
+    let s = c.visits.invariant in
+    let inside : mark.next < length mark.cell.now.items = omega (arith, c.len.ensures, c.if-mark-len.false) in
+    let is : get_or mark.cell.now.items mark.next (items.Device c.in-Device-Device.card) ≡ items.Device c.in-Device-Device.card = same_item mark.cell.now.items mark.next c.get-item.result.now (items.Device c.in-Device-Device.card) c.get-item.ensures c.in-Device-Device.is-0 in
+    let rows2 = c.deref.result.now in
+    let levels2 = c.deref-in-Device-Device.result.now in
+    let same = c.deref.ensures.value in
+    let alike = c.deref-in-Device-Device.ensures.value in
+    let card = c.in-Device-Device.card in
+    state_device n p rows made levels mark above s inside c.place.new.made card is
+    (sym (λ j. option_map (fault_at card.line) (device_cause_in limits n (length made.devices.items) (known_nets p.cards (same j) made.nets) (instance_of (alike j)) card)) ∙ c.in_ok-place-in-Device-Device.ensures.refused)
+    (added_same n p rows2 rows made c.place.new.made levels levels2 card same alike c.in_ok-place-in-Device-Device.ensures.added)
+
+pub returns-in_err-instance-in-Inst-Inst-clause-refused : goal.returns-in_err-instance-in-Inst-Inst-clause-refused
+returns-in_err-instance-in-Inst-Inst-clause-refused c =
+    let n = c.args.source.now.netlist.now in
+    let p = c.args.source.now.plan.now in
+    let rows = c.visits.instances.items in
+    let made = c.visits.made in
+    let levels = c.visits.levels.items in
+    let mark = c.visits.mark in
+    let above = c.visits.above.items in
+    let s = c.visits.invariant in
+    let inside : mark.next < length mark.cell.now.items = omega (arith, c.len.ensures, c.if-mark-len.false) in
+    let is : get_or mark.cell.now.items mark.next (items.Inst c.in-Inst-Inst.card) ≡ items.Inst c.in-Inst-Inst.card = same_item mark.cell.now.items mark.next c.get-item.result.now (items.Inst c.in-Inst-Inst.card) c.get-item.ensures c.in-Inst-Inst.is-0 in
+    let w = err_from_is_err_and c.from_residual-in_err-instance-in-Inst-Inst.result c.from_residual-in_err-instance-in-Inst-Inst.ensures.1 in
+    let deep : c.len-in-Inst-Inst.result ≡ length levels = omega (arith, c.len-in-Inst-Inst.ensures) in
+    rw (w.1, w.2) (fault_instance n p rows made levels mark above s inside ℕ Walked c.in-Inst-Inst.card c.in_err-instance-in-Inst-Inst.field-0.0 is
+    (subst (λ d. Refuses {A = ℕ} (option_map (fault_at c.in-Inst-Inst.card.line) (instance_cause_in limits (length rows) (d + 1))) (Err c.in_err-instance-in-Inst-Inst.field-0.0)) deep c.in_err-instance-in-Inst-Inst.ensures.refused))
+
+pub cell_of-cell-requires : goal.cell_of-cell-requires
+cell_of-cell-requires c =
+    let n = c.args.source.now.netlist.now in
+    let p = c.args.source.now.plan.now in
+    let rows = c.visits.instances.items in
+    let made = c.visits.made in
+    let levels = c.visits.levels.items in
+    let mark = c.visits.mark in
+    let above = c.visits.above.items in
+    let s = c.visits.invariant in
+    let inside : mark.next < length mark.cell.now.items = omega (arith, c.len.ensures, c.if-mark-len.false) in
+    let item = c.get-item.result.now in
+    let k = c.index-plans.result.now in
+    let i = c.index.result.now in
+    let back : mark.next + 1 - 1 ≡ mark.next = omega arith in
+    let at : i ≡ get_or k.items.items mark.next i = c.index.ensures ∙ ap (λ j. get_or k.items.items j i) back in
+    let planned : IsItemPlan n p.cards item i = item_planned n p rows made levels mark above s c.requires.plan k item i c.index-plans.ensures inside c.get-item.ensures at in
+    let inst : IsInstPlan n p.cards c.in-Inst-Inst.card c.in-Inst-Inst.number c.in-Inst-Inst.plan = subst (λ it. IsItemPlan n p.cards it (plans.Inst c.in-Inst-Inst.number c.in-Inst-Inst.plan)) c.in-Inst-Inst.is-0 (subst (IsItemPlan n p.cards item) c.in-Inst-Inst.is-1 planned) in
+    omega (arith, inst.known)
+
+pub visits-preserved : goal.visits-preserved
+visits-preserved c =
+    let n = c.args.source.now.netlist.now in
+    let p = c.args.source.now.plan.now in
+    let rows = c.visits.instances.items in
+    let made = c.visits.made in
+    let levels = c.visits.levels.items in
+    let mark = c.visits.mark in
+    let above = c.visits.above.items in
+    let s = c.visits.invariant in
+    let inside : mark.next < length mark.cell.now.items = omega (arith, c.len.ensures, c.if-mark-len.false) in
+    let item = c.get-item.result.now in
+    let k = c.index-plans.result.now in
+    let i = c.index.result.now in
+    let back : mark.next + 1 - 1 ≡ mark.next = omega arith in
+    let at : i ≡ get_or k.items.items mark.next i = c.index.ensures ∙ ap (λ j. get_or k.items.items j i) back in
+    let planned : IsItemPlan n p.cards item i = item_planned n p rows made levels mark above s c.requires.plan k item i c.index-plans.ensures inside c.get-item.ensures at in
+    let is : get_or mark.cell.now.items mark.next (items.Inst c.in-Inst-Inst.card) ≡ items.Inst c.in-Inst-Inst.card = same_item mark.cell.now.items mark.next c.get-item.result.now (items.Inst c.in-Inst-Inst.card) c.get-item.ensures c.in-Inst-Inst.is-0 in
+    let inst : IsInstPlan n p.cards c.in-Inst-Inst.card c.in-Inst-Inst.number c.in-Inst-Inst.plan = subst (λ it. IsItemPlan n p.cards it (plans.Inst c.in-Inst-Inst.number c.in-Inst-Inst.plan)) c.in-Inst-Inst.is-0 (subst (IsItemPlan n p.cards item) c.in-Inst-Inst.is-1 planned) in
+    let deep : c.len-in-Inst-Inst.result ≡ length levels = omega (arith, c.len-in-Inst-Inst.ensures) in
+    let e = c.in_ok-instance-in-Inst-Inst.ensures in
+    state_entered n p rows made levels mark above s inside c.requires.formed c.in-Inst-Inst.card c.in-Inst-Inst.number c.in-Inst-Inst.plan _ _ record { instance = c.in_ok-instance-in-Inst-Inst.instance; cell = c.cell_of-cell.result; plan = c.in-Inst-Inst.plan; next = 0 }
+    c.enter.new.instances.items c.push-in-Inst-Inst.new.self.items c.push.new.self.items c.in_ok-push-in-Inst-Inst-2.ensures.items e.rows c.in_ok-push-in-Inst-Inst.ensures.items is inst
+    (sym (ap (λ d. option_map (fault_at c.in-Inst-Inst.card.line) (instance_cause_in limits (length rows) (d + 1))) deep) ∙ e.refused) e.room (omega (arith, deep, e.short)) refl c.cell_of-cell.ensures refl refl e.number refl refl refl
+
+pub unreachable-requires : goal.unreachable-requires
+unreachable-requires c =
+    let n = c.args.source.now.netlist.now in
+    let p = c.args.source.now.plan.now in
+    let rows = c.visits.instances.items in
+    let made = c.visits.made in
+    let levels = c.visits.levels.items in
+    let mark = c.visits.mark in
+    let above = c.visits.above.items in
+    let s = c.visits.invariant in
+    let inside : mark.next < length mark.cell.now.items = omega (arith, c.len.ensures, c.if-mark-len.false) in
+    let item = c.get-item.result.now in
+    let k = c.index-plans.result.now in
+    let i = c.index.result.now in
+    let back : mark.next + 1 - 1 ≡ mark.next = omega arith in
+    let at : i ≡ get_or k.items.items mark.next i = c.index.ensures ∙ ap (λ j. get_or k.items.items j i) back in
+    let planned : IsItemPlan n p.cards item i = item_planned n p rows made levels mark above s c.requires.plan k item i c.index-plans.ensures inside c.get-item.ensures at in
+    elim c.in_default-2.branch [
+      | in_default-2-via-in-Device+in_default w ↦
+          subst (λ it. IsItemPlan n p.cards it (plans.Inst w.in_default-2.field-0-1 w.in_default-2.field-1-1)) w.in_default-2.is-0 (subst (IsItemPlan n p.cards item) w.in_default-2.is-1 planned)
+      | in_default-2-via-in-Inst+in_default w ↦
+          subst (λ it. IsItemPlan n p.cards it (plans.Device w.in_default-2.field-0-1 w.in_default-2.field-1-1)) w.in_default-2.is-0 (subst (IsItemPlan n p.cards item) w.in_default-2.is-1 planned)
+    ]

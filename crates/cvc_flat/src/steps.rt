@@ -1,0 +1,191 @@
+//! The steps of a walk.
+ghost use Rattle.std.specs.Prelude.{◌≡◌, ◌∷◌, ◌++◌, ◌+◌, ◌<◌, ◌≤◌, [], All, IfOk, OnOk, length, map};
+ghost use Rattle.std.specs.Option.{option_map};
+ghost use Rattle.cvc_base.specs.Answers.{Refuses};
+ghost use Rattle.cvc_base.specs.declared.fault.Refusal.TheVariants as refusals;
+ghost use Rattle.cvc_card.specs.Card.{net_count};
+ghost use Rattle.cvc_cdl.specs.Building.{fault_at};
+ghost use Rattle.cvc_flat.specs.Flat.{limits, nets_once, opening_fault};
+ghost use Rattle.cvc_flat.specs.Instances.{cell_at};
+ghost use Rattle.cvc_flat.specs.Levels.{AreLevels, instance_of};
+ghost use Rattle.cvc_flat.specs.Making.{AddsDevice, device_cause_in, instance_cause_in, known_nets, names_nets, net_of_opening, NumbersPins, tables_of};
+ghost use Rattle.cvc_flat.specs.Names.{AreApart};
+ghost use Rattle.cvc_flat.specs.Nets.{path_of as path_in};
+ghost use Rattle.cvc_flat.specs.Planning.{IsDevicePlan, IsPlan, opening_of};
+ghost use Rattle.cvc_flat.specs.Resolving.{AreNames};
+ghost use Rattle.cvc_flat.specs.Tables.{AreWaysApart, IsSound, IsTree, path_of, way_at, ways_of};
+
+use crate::cards::Plan;
+use crate::level::Level;
+use crate::nets::NetTable;
+use crate::params::params_of;
+use crate::plan::DevicePlan;
+use crate::resolve::net_row;
+use crate::rows::{DeviceRow, Group, InstanceRow, NetRow};
+use arrayvec::ArrayVec;
+use cvc_base::{Cause, Fault, FileKind, NetId, NoMemory, Refusal};
+use cvc_card::DeviceCard;
+use cvc_cdl::{Cell, Netlist};
+use std::alloc::Global;
+
+// What is walked: a netlist, the cell that is its top, and its plan.
+#[derive(Clone, Copy)]
+pub(crate) struct Source<'n> {
+    pub netlist: &'n Netlist,
+    pub top: &'n Cell,
+    pub plan: &'n Plan,
+}
+
+// The nets and devices of a walk so far.
+#[derive(Drop)]
+pub(crate) struct Made {
+    pub nets: NetTable,
+    pub devices: Vec<DeviceRow>,
+    pub groups: Vec<Group>,
+}
+
+// The most instances, names on a path, devices and nets.
+const INSTANCES: usize = 1_000_000;
+
+const NAMES: usize = 64;
+
+const DEVICES: usize = 500_000;
+
+const NETS: usize = 1_000_000;
+
+// A refusal at a line of the netlist.
+fn refused(line: u32, cause: Cause) -> Refusal
+    ensures { result ≡ refusals.At (fault_at line cause) }
+{
+    Refusal::At(Fault::at(FileKind::Netlist, line, cause))
+}
+
+// Goes into an instance, which is given the next number.
+pub(crate) fn enter(
+    instances: &mut Vec<InstanceRow>,
+    depth: usize,
+    row: InstanceRow,
+    line: u32,
+) -> Result<u32, Refusal>
+    requires { depth ≤ 64 }
+    ensures refused { Refuses (option_map (fault_at line) (instance_cause_in limits (length instances.old.items) (depth + 1))) result }
+    ensures rows { OnOk result (instances.new.items ≡ instances.old.items ++ row ∷ []) }
+    ensures number { IfOk result (λ i. i ≡ length instances.old.items + 1) }
+    ensures room { OnOk result (length instances.old.items < 1000000) }
+    ensures short { OnOk result (depth < 64) }
+{
+    if instances.len() >= INSTANCES {
+        return Err(refused(line, Cause::TooManyInstances));
+    }
+    if depth >= NAMES {
+        return Err(refused(line, Cause::TooDeep));
+    }
+    instances.push(row)?;
+    Ok(instances.len() as u32)
+}
+
+// The nets of the globals and of the ports of the top.
+pub(crate) fn opened(alloc: Global, plan: &Plan) -> Result<NetTable, Refusal>
+    requires apart { AreApart plan.now.cards.names }
+    requires opened { All (λ o. o.name < length plan.now.cards.names) plan.now.openings.items }
+    ensures refused { Refuses (opening_fault limits [] (map (opening_of plan.now.cards.names) plan.now.openings.items)) result }
+    ensures nets { IfOk result (λ nets. known_nets plan.now.cards [] nets ≡ nets_once [] (map net_of_opening (map (opening_of plan.now.cards.names) plan.now.openings.items))) }
+    ensures within { IfOk result (λ nets. All (λ r. (r.instance ≤ 0) × (r.name < length plan.now.cards.names)) nets) }
+    ensures room { IfOk result (λ nets. length nets ≤ 1000000) }
+{
+    let mut nets = NetTable::new(alloc);
+    for opening in &plan.openings {
+        nets.number(NetRow {
+            instance: 0,
+            name: opening.name,
+        })?;
+        if nets.len() > NETS {
+            return Err(refused(opening.line, Cause::TooManyNets));
+        }
+    }
+    Ok(nets)
+}
+
+// The numbers of the nets of these names in an instance. A net that is new is put last.
+fn pins_of(
+    plan: &Plan,
+    instances: &[InstanceRow],
+    nets: &mut NetTable,
+    instance: u32,
+    names: &ArrayVec<u32, 4>,
+) -> Result<ArrayVec<NetId, 4>, NoMemory>
+    requires names { AreNames plan.now.cards.names plan.now.globals plan.now.cards.parts.items }
+    requires tree { IsTree instances.now }
+    requires cards { All (λ r. r.card < length plan.now.cards.parts.items) instances.now }
+    requires ways { AreWaysApart plan.now.cards.names plan.now.cards.parts.items instances.now }
+    requires nets { All (λ r. (r.instance ≤ length instances.now) × (r.name < length plan.now.cards.names)) nets.old }
+    requires inside { instance ≤ length instances.now }
+    requires known { All (λ k. k < length plan.now.cards.names) names.now.items }
+    ensures { IfOk result (λ pins. NumbersPins plan.now instances.now nets.old nets.new (names_nets plan.now (way_at (ways_of instances.now) instance) names.now.items) pins.items) }
+{
+    let mut pins = ArrayVec::new();
+    for name in names.as_slice() {
+        let row = net_row(plan.globals, &plan.cards.parts, instances, instance, *name);
+        let place = nets.number(row)?;
+        match u32::try_from(place) {
+            Ok(number) => pins.push(NetId(number)),
+            Err(_) => return Err(NoMemory),
+        }
+    }
+    Ok(pins)
+}
+
+// Puts a device into an instance.
+pub(crate) fn place(
+    alloc: Global,
+    source: &Source<'_>,
+    instances: &[InstanceRow],
+    levels: &[Level<'_>],
+    instance: u32,
+    card: &DeviceCard,
+    number: u32,
+    device: &DevicePlan,
+    made: &mut Made,
+) -> Result<(), Refusal>
+    requires plan { IsPlan source.now.netlist.now source.now.plan.now }
+    requires top { source.now.top.now ≡ cell_at source.now.netlist.now [] }
+    requires sound { IsSound (tables_of source.now.netlist.now source.now.plan.now instances.now made.old) }
+    requires groups { length made.old.groups.items ≤ length made.old.devices.items }
+    requires levels { AreLevels source.now.netlist.now levels.now }
+    requires inside { instance ≤ length instances.now }
+    requires path { path_of source.now.plan.now.cards.names source.now.plan.now.cards.parts.items (way_at (ways_of instances.now) instance) ≡ path_in source.now.netlist.now (instance_of levels.now) }
+    requires device { IsDevicePlan source.now.plan.now.cards card.now number device.now }
+    requires formed { length card.now.nets ≡ net_count card.now.letter }
+    ensures refused { Refuses (option_map (fault_at card.now.line) (device_cause_in limits source.now.netlist.now (length made.old.devices.items) (known_nets source.now.plan.now.cards instances.now made.old.nets) (instance_of levels.now) card.now)) result }
+    ensures added { OnOk result (AddsDevice source.now.netlist.now source.now.plan.now instances.now made.old made.new (instance_of levels.now) card.now) }
+{
+    if made.devices.len() >= DEVICES {
+        return Err(refused(card.line, Cause::TooManyDevices));
+    }
+    let pins = pins_of(
+        source.plan,
+        instances,
+        &mut made.nets,
+        instance,
+        &device.nets,
+    )?;
+    if made.nets.len() > NETS {
+        return Err(refused(card.line, Cause::TooManyNets));
+    }
+    let found = params_of(alloc, source.netlist, source.top, levels, &card.pairs)?;
+    let Some(params) = found else {
+        return Err(refused(card.line, Cause::ParamLoop));
+    };
+    let group = made.groups.len() as u32;
+    made.groups.push(Group {
+        model: device.model,
+        params,
+    })?;
+    made.devices.push(DeviceRow {
+        instance,
+        card: number,
+        group,
+        pins,
+    })?;
+    Ok(())
+}
