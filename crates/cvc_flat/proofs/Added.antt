@@ -1,6 +1,6 @@
 -- One more device in the tables.
-use Rattle.std.proofs.Common.{◌≡◌, ℕ, ◌+◌, ◌<◌, ◌≤◌, ◌^◌, List, [], ◌∷◌, ◌++◌, length, map, take, get_or, refl, sym, ap, subst, ◌∙◌, length-append, arith}
-use Rattle.std.specs.Prelude.{All, Option, Some, None}
+use Rattle.std.proofs.Common.{◌≡◌, ℕ, ◌+◌, ◌<◌, ◌≤◌, List, [], ◌∷◌, ◌++◌, length, map, take, get_or, refl, sym, ap, subst, ◌∙◌, length-append, arith}
+use Rattle.std.specs.Prelude.{All, Option, Some}
 use Rattle.std.specs.List.{filter_map}
 use Rattle.std.specs.Option.{unwrap_or}
 use Rattle.std.proofs.Math.Seq.{get_or-append_seam}
@@ -9,7 +9,6 @@ use Rattle.std.proofs.lemmas.List.Elements.{All-append}
 use Rattle.cvc_base.specs.declared.ids.NetId.{NetId}
 use Rattle.cvc_base.specs.declared.param.Param.{Param}
 use Rattle.cvc_card.specs.declared.card.DeviceCard.{DeviceCard}
-use Rattle.cvc_card.specs.declared.card.InstCard.{InstCard}
 use Rattle.cvc_card.specs.Card.{net_count}
 use Rattle.cvc_cdl.specs.declared.netlist.Item.TheVariants as items
 use Rattle.cvc_cdl.specs.declared.netlist.Netlist.{Netlist}
@@ -23,7 +22,7 @@ use Rattle.cvc_flat.specs.declared.steps.Made.{Made}
 use Rattle.cvc_flat.specs.Flat.{FlatDevice, Placed, device_at as placed_at, devices_behind, instance_at, flat_device, instances_behind, net_id, nets_behind, nets_once, pins_of}
 use Rattle.cvc_flat.specs.Instances.{Instance, names_to}
 use Rattle.cvc_flat.specs.Making.{AddsDevice, NumbersPins, Shows, known_nets, names_nets, tables_of}
-use Rattle.cvc_flat.specs.Nets.{Net, Path, global_names, name_of_link, names_of, net_in, net_of, path_of as path_in, link_of as link_in}
+use Rattle.cvc_flat.specs.Nets.{Net, global_names, names_of, net_in, net_of, path_of as path_in}
 use Rattle.cvc_flat.specs.Params.{params_in}
 use Rattle.cvc_flat.specs.Planning.{IsDevicePlan, IsPlan}
 use Rattle.cvc_flat.specs.Tables.{IsDevice, IsSound, Tables, Way, device_at, group_at, names_on, net_at, no_group, part_at, path_of, text, way_at, ways_of}

@@ -1,6 +1,5 @@
 -- One more instance in the tables.
-use Rattle.std.proofs.Common.{◌≡◌, ℕ, zero, suc, ◌+◌, ◌<◌, ◌≤◌, false, List, [], ◌∷◌, ◌++◌, length, map, drop, get_or, refl, sym, ap, subst, ◌∙◌, length-append, arith}
-use Rattle.std.specs.Prelude.{All}
+use Rattle.std.proofs.Common.{◌≡◌, ℕ, zero, suc, ◌+◌, ◌<◌, ◌≤◌, List, [], ◌∷◌, ◌++◌, length, map, drop, get_or, refl, sym, ap, subst, ◌∙◌, length-append, arith}
 use Rattle.std.specs.List.{filter_map}
 use Rattle.std.proofs.Math.Seq.{get_or-append_seam}
 use Rattle.std.proofs.lemmas.List.{append-nil, get_or-drop, get_or-map, get_or_append_left, length-drop, length-map, map-append}
@@ -19,7 +18,7 @@ use Rattle.cvc_flat.specs.Flat.{device_at as placed_at, devices_behind, flat_dev
 use Rattle.cvc_flat.specs.Instances.{Instance, names_to}
 use Rattle.cvc_flat.specs.Making.{Shows, tables_of}
 use Rattle.cvc_flat.specs.Nets.{Path, link_of as link_in, names_of, path_of as path_in}
-use Rattle.cvc_flat.specs.Tables.{AreWaysApart, IsDevice, IsNet, IsSound, IsTree, Tables, Way, device_at, group_at, link_at, names_on, net_at, no_row, part_at, path_of, text, way_at, way_in, ways_from, ways_of}
+use Rattle.cvc_flat.specs.Tables.{AreWaysApart, IsDevice, IsNet, IsSound, Way, device_at, group_at, link_at, names_on, net_at, no_row, part_at, path_of, text, way_at, way_in, ways_from, ways_of}
 use Rattle.cvc_flat.specs.Walk.{Visit}
 use Rattle.cvc_flat.proofs.Added.{path_names}
 use Rattle.cvc_flat.proofs.Apart.{AllApart, Different, Each}

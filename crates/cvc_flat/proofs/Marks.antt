@@ -1,35 +1,32 @@
 -- What is left of a walk, by its marks.
-use Rattle.std.proofs.Common.{◌≡◌, ℕ, zero, suc, ◌+◌, ◌-◌, ◌<◌, ◌≤◌, false, List, [], ◌∷◌, ◌++◌, length, map, cond, drop, get_or, refl, sym, ap, subst, ◌∙◌, arith}
+use Rattle.std.proofs.Common.{◌≡◌, ℕ, suc, ◌+◌, ◌-◌, ◌<◌, ◌≤◌, false, List, [], ◌∷◌, ◌++◌, length, map, cond, drop, get_or, refl, sym, ap, subst, ◌∙◌, arith}
 use Rattle.std.specs.Prelude.{All, Option, Some, None, find, Bool, true}
 use Rattle.std.specs.Option.{unwrap_or}
 use Rattle.std.specs.Str.{bytes_eq}
-use Rattle.std.proofs.lemmas.List.{append_assoc, append-nil, drop_all, drop_more}
+use Rattle.std.proofs.lemmas.List.{append_assoc, drop_all, drop_more}
 use Rattle.cvc_card.specs.declared.card.DeviceCard.{DeviceCard}
 use Rattle.cvc_card.specs.declared.card.InstCard.{InstCard}
-use Rattle.cvc_card.specs.Card.{has_twice}
 use Rattle.cvc_cdl.specs.declared.netlist.Cell.{Cell}
 use Rattle.cvc_cdl.specs.declared.netlist.Item.{Item}
 use Rattle.cvc_cdl.specs.declared.netlist.Item.TheVariants as items
 use Rattle.cvc_cdl.specs.declared.netlist.Netlist.{Netlist}
-use Rattle.cvc_cdl.specs.Building.{name_of_item}
-use Rattle.cvc_cdl.specs.WellFormed.{IsFormedItem, IsFormedLevel, IsWellFormed}
+use Rattle.cvc_cdl.specs.WellFormed.{IsFormedLevel, IsWellFormed}
 use Rattle.cvc_flat.specs.declared.cards.Plan.{Plan}
 use Rattle.cvc_flat.specs.declared.level.Level.{Level}
 use Rattle.cvc_flat.specs.declared.rows.InstanceRow.{InstanceRow}
 use Rattle.cvc_flat.specs.declared.steps.Made.{Made}
 use Rattle.cvc_flat.specs.declared.walk.Mark.{Mark}
 use Rattle.cvc_flat.specs.Flat.{instances_behind, limits, visit_fault, visits_of, walk_fault}
-use Rattle.cvc_flat.specs.Instances.{Instance, cell_at, cell_for, no_cell, top_cell}
+use Rattle.cvc_flat.specs.Instances.{Instance, cell_at, no_cell, top_cell}
 use Rattle.cvc_flat.specs.Left.{Frame, frame_at, left}
 use Rattle.cvc_flat.specs.Levels.{card_of}
 use Rattle.cvc_flat.specs.Making.{AreMarks, IsMark, Shows, frame_of, frames_of, tables_of}
-use Rattle.cvc_flat.specs.Nets.{path_of as path_in}
-use Rattle.cvc_flat.specs.Tables.{path_of, way_at, ways_of}
+use Rattle.cvc_flat.specs.Tables.{path_of}
 use Rattle.cvc_flat.specs.Walk.{Visit}
 use Rattle.cvc_flat.proofs.Apart.{AllApart, Different, Each, instances_append, walk_apart}
 use Rattle.cvc_flat.proofs.Entered.{way_stays}
 use Rattle.cvc_flat.proofs.Lists.{all_head, all_tail}
-use Rattle.cvc_flat.proofs.Stack.{fault_here, fault_next, left_device, left_done, left_instance, left_start}
+use Rattle.cvc_flat.proofs.Stack.{fault_next, left_device, left_done, left_instance, left_start}
 
 -- ## Marks
 

@@ -1,17 +1,15 @@
 -- Pins numbered one by one.
-use Rattle.std.proofs.Common.{◌≡◌, ℕ, zero, suc, ◌+◌, ◌<◌, ◌≤◌, ◌==◌, ◌&&◌, ◌||◌, Bool, true, false, cond, not, List, [], ◌∷◌, ◌++◌, length, map, take, get_or, refl, sym, ap, subst, ◌∙◌, append_assoc, length-append, arith}
+use Rattle.std.proofs.Common.{◌≡◌, ℕ, suc, ◌+◌, ◌<◌, ◌≤◌, ◌==◌, ◌&&◌, ◌||◌, Bool, true, false, cond, not, List, [], ◌∷◌, ◌++◌, length, map, get_or, refl, sym, ap, subst, ◌∙◌, append_assoc, length-append, arith}
 use Rattle.std.specs.Prelude.{All, if◌then◌else◌}
 use Rattle.std.specs.List.{list_any, position_or_len}
 use Rattle.std.proofs.lemmas.Bool.{eq-eqb, false≢true}
-use Rattle.std.proofs.lemmas.List.{append-nil, length-map, map-append, take_more}
+use Rattle.std.proofs.lemmas.List.{append-nil, length-map, map-append}
 use Rattle.std.proofs.lemmas.List.Elements.{All-append}
 use Rattle.cvc_base.specs.declared.ids.NetId.{NetId}
-use Rattle.cvc_cdl.specs.declared.netlist.Netlist.{Netlist}
 use Rattle.cvc_flat.specs.declared.cards.Plan.{Plan}
-use Rattle.cvc_flat.specs.declared.rows.InstancePart.{InstancePart}
 use Rattle.cvc_flat.specs.declared.rows.InstanceRow.{InstanceRow}
 use Rattle.cvc_flat.specs.declared.rows.NetRow.{NetRow}
-use Rattle.cvc_flat.specs.Flat.{Placed, flat_device, is_net_among, net_id, nets_once, number_of_net, pins_of}
+use Rattle.cvc_flat.specs.Flat.{is_net_among, net_id, nets_once, number_of_net}
 use Rattle.cvc_flat.specs.Making.{NumbersPins, known_nets}
 use Rattle.cvc_flat.specs.Names.{AreApart}
 use Rattle.cvc_flat.specs.Nets.{Net, same_net}

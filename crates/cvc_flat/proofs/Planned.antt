@@ -1,6 +1,6 @@
 -- A plan as it grows: what is kept of a card stays as it is.
-use Rattle.std.proofs.Common.{◌≡◌, ℕ, zero, suc, ◌+◌, ◌<◌, ◌≤◌, ◌||◌, Bool, true, false, List, [], ◌∷◌, ◌++◌, length, map, get_or, take, refl, sym, ap, subst, ◌∙◌, append_assoc, length-append, arith}
-use Rattle.std.proofs.Common.{cond, not}
+use Rattle.std.proofs.Common.{◌≡◌, ℕ, zero, suc, ◌+◌, ◌<◌, ◌||◌, Bool, true, false, List, [], ◌∷◌, ◌++◌, length, map, get_or, take, refl, sym, ap, subst, ◌∙◌, append_assoc, length-append, arith}
+use Rattle.std.proofs.Common.{cond}
 use Rattle.std.specs.declared.alloc.Global.{Global}
 use Rattle.std.specs.Prelude.{All, IfSome, IsTrue, Result, Ok, Err, IfOk, MatchOption, Vec, Option, Some, None, find, nat_lt, position, slice_get, if◌then◌else◌}
 use Rattle.std.specs.List.{AllByRecursion, AllZip, IsDistinct, list_any, position_or_len}
@@ -11,7 +11,7 @@ use Rattle.std.proofs.lemmas.Bool.{false≢true}
 use Rattle.std.proofs.lemmas.Bool.Decides.{nat_tests}
 use Rattle.std.proofs.lemmas.List.Folds.{find_at}
 use Rattle.std.proofs.lemmas.Option.{slice_get-get_or, slice_get_past}
-use Rattle.std.proofs.lemmas.List.{append-nil, get_or-map, get_or_append_left, length-map, map-append, take_more}
+use Rattle.std.proofs.lemmas.List.{append-nil, get_or_append_left, map-append, take_more}
 use Rattle.std.proofs.lemmas.List.Elements.{All-append}
 use Rattle.cvc_card.specs.Card.{has_twice}
 use Rattle.cvc_card.specs.declared.card.DeviceCard.{DeviceCard}
@@ -37,7 +37,7 @@ use Rattle.cvc_flat.specs.Names.{AreApart, Grows, items_of, place_of, with_name}
 use Rattle.cvc_flat.specs.Nets.{Link}
 use Rattle.cvc_flat.specs.Planning.{AreCellPlans, AreSoundCards, CardsGrow, IsCellPlan, IsDevicePlan, IsInstPlan, IsItemPlan, opening_of}
 use Rattle.cvc_flat.specs.Plans.{IsPlanOf}
-use Rattle.cvc_flat.specs.Tables.{IsPart, link_at, link_of, no_part, part_at, text}
+use Rattle.cvc_flat.specs.Tables.{IsPart, link_at, link_of, no_part, part_at}
 use Rattle.cvc_flat.proofs.Growing.{grows_connections, grows_length, grows_none, grows_numbers, grows_pairs, grows_text, grows_texts, grows_twice, map_alike}
 use Rattle.cvc_flat.proofs.Lists.{all_one, none_first, place_map}
 use Rattle.cvc_flat.proofs.Resolving.{place_among}

@@ -1,6 +1,6 @@
 -- The states of a walk: what is known at each visit, and what one more visit makes of it.
-use Rattle.std.proofs.Common.{◌≡◌, ℕ, suc, take, ◌-◌, ◌+◌, ◌<◌, ◌≤◌, List, [], ◌∷◌, ◌++◌, length, map, get_or, drop, refl, sym, ap, subst, ◌∙◌, append_assoc, length-append, vec_len, arith}
-use Rattle.std.specs.Prelude.{All, Option, Some, None, Result, Err, reverse}
+use Rattle.std.proofs.Common.{◌≡◌, ℕ, suc, take, ◌-◌, ◌+◌, ◌<◌, ◌≤◌, List, [], ◌∷◌, ◌++◌, length, map, get_or, drop, refl, sym, ap, subst, ◌∙◌, length-append, arith}
+use Rattle.std.specs.Prelude.{All, Some, None, Result, Err, reverse}
 use Rattle.std.specs.List.{AllZip}
 use Rattle.std.specs.Option.{option_map}
 use Rattle.std.proofs.lemmas.List.{append-nil, get_or_append_left, length-drop, length-map, length-reverse, reverse-append, take_all, take_more}
@@ -21,13 +21,12 @@ use Rattle.cvc_flat.specs.declared.cards.CellPlan.{CellPlan}
 use Rattle.cvc_flat.specs.declared.cards.ItemPlan.{ItemPlan}
 use Rattle.cvc_flat.specs.declared.cards.Plan.{Plan}
 use Rattle.cvc_flat.specs.declared.level.Level.{Level}
-use Rattle.cvc_flat.specs.declared.rows.DeviceRow.{DeviceRow}
 use Rattle.cvc_flat.specs.declared.rows.Group.{Group}
 use Rattle.cvc_flat.specs.declared.rows.InstanceRow.{InstanceRow}
 use Rattle.cvc_flat.specs.declared.rows.NetRow.{NetRow}
 use Rattle.cvc_flat.specs.declared.steps.Made.{Made}
 use Rattle.cvc_flat.specs.declared.walk.Mark.{Mark}
-use Rattle.cvc_flat.specs.Flat.{FlatDevice, Placed, devices_behind, flat_device, instances_behind, limits, nets_behind, visit_fault, visits_of, walk_fault}
+use Rattle.cvc_flat.specs.Flat.{devices_behind, flat_device, instances_behind, limits, nets_behind, visit_fault, visits_of, walk_fault}
 use Rattle.cvc_flat.specs.Instances.{Instance, cell_at, cell_for, no_cell}
 use Rattle.cvc_flat.specs.Left.{left}
 use Rattle.cvc_flat.specs.Levels.{AreLevels, card_of, instance_of}

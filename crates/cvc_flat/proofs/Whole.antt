@@ -1,6 +1,6 @@
 -- The flat list as a whole, from the openings and the walk.
-use Rattle.std.proofs.Common.{◌≡◌, List, [], map, take, refl, sym, ap, ◌∙◌}
-use Rattle.std.specs.Prelude.{Some, None, Result, Ok, Err}
+use Rattle.std.proofs.Common.{◌≡◌, List, [], map, take, sym, ap}
+use Rattle.std.specs.Prelude.{Some, None, Ok, Err}
 use Rattle.std.proofs.lemmas.List.{append-nil}
 use Rattle.cvc_base.specs.Answers.{IfAt, Refuses}
 use Rattle.cvc_base.specs.declared.fault.Fault.{Fault}

@@ -1,6 +1,6 @@
 -- A flat list while it is made. The tables are those of a plan with the rows so far; the nets and the devices of the visits that are done stand in them.
 -- What is left of the walk is read from the marks: where it stands in the instance that it is in, and in each one above.
-use Rattle.std.specs.Prelude.{◌≡◌, ℕ, ◌+◌, ◌-◌, ◌<◌, ◌≤◌, List, [], ◌∷◌, ◌++◌, All, Option, Some, nat_le, nat_lt, drop, length, map, take, if◌then◌else◌, slice_index_or}
+use Rattle.std.specs.Prelude.{◌≡◌, ℕ, ◌-◌, ◌<◌, ◌≤◌, List, [], ◌∷◌, ◌++◌, All, Option, Some, nat_le, nat_lt, drop, length, map, take, if◌then◌else◌, slice_index_or}
 use Rattle.cvc_base.specs.declared.cause.Cause.{Cause}
 use Rattle.cvc_base.specs.declared.cause.Cause.TheVariants.{TooDeep, TooManyInstances, TooManyDevices, TooManyNets, ParamLoop}
 use Rattle.cvc_base.specs.declared.ids.NetId.{NetId}
@@ -16,7 +16,7 @@ use Rattle.cvc_flat.specs.declared.rows.InstanceRow.{InstanceRow}
 use Rattle.cvc_flat.specs.declared.rows.NetRow.{NetRow}
 use Rattle.cvc_flat.specs.declared.steps.Made.{Made}
 use Rattle.cvc_flat.specs.declared.walk.Mark.{Mark}
-use Rattle.cvc_flat.specs.Flat.{Limits, Opening, devices_behind, flat_device, instances_behind, limits, net_id, nets_behind, nets_once, pins_of}
+use Rattle.cvc_flat.specs.Flat.{Limits, Opening, devices_behind, flat_device, instances_behind, net_id, nets_behind, nets_once, pins_of}
 use Rattle.cvc_flat.specs.Instances.{Instance, cell_at, no_cell}
 use Rattle.cvc_flat.specs.Left.{Frame}
 use Rattle.cvc_flat.specs.Levels.{card_of}

@@ -1,4 +1,4 @@
-use Rattle.std.proofs.Common.{[], ◌∷◌, ◌++◌, ◌∙◌, take, sym, subst, arith}
+use Rattle.std.proofs.Common.{[], ◌∙◌, take, sym, subst, arith}
 use Rattle.std.specs.List.{AllZip}
 use Rattle.std.proofs.lemmas.List.{take_all}
 use Rattle.cvc_cdl.specs.declared.netlist.Cell.{Cell}

@@ -1,4 +1,4 @@
-use Rattle.std.proofs.Common.{List, ap, sym, ◌∙◌}
+use Rattle.std.proofs.Common.{ap, sym, ◌∙◌}
 use Rattle.cvc_cdl.specs.Ending.{cell_named}
 use Rattle.cvc_flat.proofs.Planned.{top_named}
 use Rattle.cvc_flat.proofs.cards.top_number.Goals as goal

@@ -1,4 +1,4 @@
-use Rattle.std.proofs.Common.{◌≡◌, ◌+◌, ◌<◌, ◌≤◌, List, [], ◌∷◌, length, map, drop, get_or, refl, sym, ap, subst, ◌∙◌, lit≤, arith}
+use Rattle.std.proofs.Common.{◌≡◌, ◌+◌, ◌<◌, ◌≤◌, List, [], ◌∷◌, length, map, drop, get_or, sym, ap, subst, ◌∙◌, arith}
 use Rattle.std.specs.Prelude.{All}
 use Rattle.std.proofs.lemmas.List.{get_or-map, length-map}
 use Rattle.cvc_base.specs.declared.cause.Cause.TheVariants.{TooManyNets}
@@ -9,7 +9,7 @@ use Rattle.cvc_flat.specs.Flat.{Opening, limits, nets_once, opening_fault}
 use Rattle.cvc_flat.specs.Making.{known_nets}
 use Rattle.cvc_flat.specs.Nets.{Net}
 use Rattle.cvc_flat.specs.Planning.{opening_of}
-use Rattle.cvc_flat.proofs.Openings.{fault_opened, fault_past, known_length, nets_to, next_known, no_opening_fault, opened_inside, opened_row, opens_none, refuses_opening}
+use Rattle.cvc_flat.proofs.Openings.{fault_opened, fault_past, known_length, next_known, no_opening_fault, opened_inside, opened_row, opens_none, refuses_opening}
 use Rattle.cvc_flat.specs.contracts.nets.NetTable.{the_row}
 use Rattle.cvc_flat.proofs.steps.opened.Goals as goal
 
