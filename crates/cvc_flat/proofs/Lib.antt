@@ -20,5 +20,17 @@ pub mod Marks
 pub mod Entered
 pub mod Causes
 pub mod Openings
+pub mod Givens
+pub mod Pigeons
+pub mod Chains
+pub mod Loops
+pub mod Indexing
+pub mod Sighting
+pub mod Listing
+pub mod Sighted
+pub mod Plainly
+pub mod Seeing
+pub mod Listed
 pub mod Whole
 pub mod States
+pub mod Seen

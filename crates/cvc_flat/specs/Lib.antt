@@ -15,3 +15,7 @@ pub mod Plans
 pub mod Levels
 pub mod Planning
 pub mod Making
+pub mod PairIndexes
+pub mod Sights
+pub mod PairLists
+pub mod Plain

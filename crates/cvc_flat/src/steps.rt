@@ -6,19 +6,19 @@ ghost use Rattle.cvc_base.specs.declared.fault.Refusal.TheVariants as refusals;
 ghost use Rattle.cvc_card.specs.Card.{net_count};
 ghost use Rattle.cvc_cdl.specs.Building.{fault_at};
 ghost use Rattle.cvc_flat.specs.Flat.{limits, nets_once, opening_fault};
-ghost use Rattle.cvc_flat.specs.Instances.{cell_at};
-ghost use Rattle.cvc_flat.specs.Levels.{AreLevels, instance_of};
+ghost use Rattle.cvc_flat.specs.Levels.{instance_of};
 ghost use Rattle.cvc_flat.specs.Making.{AddsDevice, device_cause_in, instance_cause_in, known_nets, names_nets, net_of_opening, NumbersPins, tables_of};
 ghost use Rattle.cvc_flat.specs.Names.{AreApart};
 ghost use Rattle.cvc_flat.specs.Nets.{path_of as path_in};
 ghost use Rattle.cvc_flat.specs.Planning.{IsDevicePlan, IsPlan, opening_of};
 ghost use Rattle.cvc_flat.specs.Resolving.{AreNames};
+ghost use Rattle.cvc_flat.specs.Sights.{IsSight};
 ghost use Rattle.cvc_flat.specs.Tables.{AreWaysApart, IsSound, IsTree, path_of, way_at, ways_of};
 
 use crate::cards::Plan;
-use crate::level::Level;
 use crate::nets::NetTable;
-use crate::params::params_of;
+use crate::pair_lists::PairLists;
+use crate::params::Sight;
 use crate::plan::DevicePlan;
 use crate::resolve::net_row;
 use crate::rows::{DeviceRow, Group, InstanceRow, NetRow};
@@ -28,12 +28,13 @@ use cvc_card::DeviceCard;
 use cvc_cdl::{Cell, Netlist};
 use std::alloc::Global;
 
-// What is walked: a netlist, the cell that is its top, and its plan.
+// What is walked: a netlist, the cell that is its top, its plan, and its lists of pairs.
 #[derive(Clone, Copy)]
 pub(crate) struct Source<'n> {
     pub netlist: &'n Netlist,
     pub top: &'n Cell,
     pub plan: &'n Plan,
+    pub lists: &'n PairLists,
 }
 
 // The nets and devices of a walk so far.
@@ -136,28 +137,28 @@ fn pins_of(
 }
 
 // Puts a device into an instance.
-pub(crate) fn place(
+pub(crate) fn place<'n>(
     alloc: Global,
-    source: &Source<'_>,
+    source: &Source<'n>,
     instances: &[InstanceRow],
-    levels: &[Level<'_>],
+    sight: &Sight<'n>,
     instance: u32,
-    card: &DeviceCard,
+    card: &'n DeviceCard,
     number: u32,
     device: &DevicePlan,
     made: &mut Made,
 ) -> Result<(), Refusal>
     requires plan { IsPlan source.now.netlist.now source.now.plan.now }
-    requires top { source.now.top.now ≡ cell_at source.now.netlist.now [] }
     requires sound { IsSound (tables_of source.now.netlist.now source.now.plan.now instances.now made.old) }
     requires groups { length made.old.groups.items ≤ length made.old.devices.items }
-    requires levels { AreLevels source.now.netlist.now levels.now }
+    requires sight { IsSight sight.now }
+    requires same { sight.now.netlist.now ≡ source.now.netlist.now }
     requires inside { instance ≤ length instances.now }
-    requires path { path_of source.now.plan.now.cards.names source.now.plan.now.cards.parts.items (way_at (ways_of instances.now) instance) ≡ path_in source.now.netlist.now (instance_of levels.now) }
+    requires path { path_of source.now.plan.now.cards.names source.now.plan.now.cards.parts.items (way_at (ways_of instances.now) instance) ≡ path_in source.now.netlist.now (instance_of sight.now.levels.items) }
     requires device { IsDevicePlan source.now.plan.now.cards card.now number device.now }
     requires formed { length card.now.nets ≡ net_count card.now.letter }
-    ensures refused { Refuses (option_map (fault_at card.now.line) (device_cause_in limits source.now.netlist.now (length made.old.devices.items) (known_nets source.now.plan.now.cards instances.now made.old.nets) (instance_of levels.now) card.now)) result }
-    ensures added { OnOk result (AddsDevice source.now.netlist.now source.now.plan.now instances.now made.old made.new (instance_of levels.now) card.now) }
+    ensures refused { Refuses (option_map (fault_at card.now.line) (device_cause_in limits source.now.netlist.now (length made.old.devices.items) (known_nets source.now.plan.now.cards instances.now made.old.nets) (instance_of sight.now.levels.items) card.now)) result }
+    ensures added { OnOk result (AddsDevice source.now.netlist.now source.now.plan.now instances.now made.old made.new (instance_of sight.now.levels.items) card.now) }
 {
     if made.devices.len() >= DEVICES {
         return Err(refused(card.line, Cause::TooManyDevices));
@@ -172,7 +173,7 @@ pub(crate) fn place(
     if made.nets.len() > NETS {
         return Err(refused(card.line, Cause::TooManyNets));
     }
-    let found = params_of(alloc, source.netlist, source.top, levels, &card.pairs)?;
+    let found = sight.params_of(alloc, &card.pairs)?;
     let Some(params) = found else {
         return Err(refused(card.line, Cause::ParamLoop));
     };

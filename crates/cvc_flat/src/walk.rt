@@ -5,13 +5,17 @@ ghost use Rattle.cvc_cdl.specs.WellFormed.{IsWellFormed};
 ghost use Rattle.cvc_flat.specs.Flat.{flat_of, limits, nets_behind, visits_of, walk_fault};
 ghost use Rattle.cvc_flat.specs.Instances.{cell_at};
 ghost use Rattle.cvc_flat.specs.Making.{Shows, known_nets, tables_of};
-ghost use Rattle.cvc_flat.specs.Planning.{IsPlan};
+ghost use Rattle.cvc_flat.specs.PairLists.{AreListed};
+ghost use Rattle.cvc_flat.specs.Planning.{IsPlan, all_cells};
+ghost use Rattle.cvc_flat.specs.Sights.{IsSight};
 ghost use Rattle.cvc_flat.specs.Tables.{IsSound, held_of};
 
 use crate::Flat;
 use crate::cards::{ItemPlan, Plan, cell_of, plan_of};
 use crate::level::Level;
 use crate::nets::NetTable;
+use crate::pair_lists::lists_of;
+use crate::params::{Lists, Sight};
 use crate::rows::InstanceRow;
 use crate::steps::{Made, Source, enter, opened, place};
 use cvc_base::{NoMemory, Refusal, Text};
@@ -35,10 +39,19 @@ struct Walked {
 }
 
 // Walks the whole of a netlist, where the nets of its openings are known.
-fn walk(alloc: Global, source: &Source<'_>, nets: NetTable) -> Result<Walked, Refusal>
+fn walk<'n>(
+    alloc: Global,
+    source: &Source<'n>,
+    start: Sight<'n>,
+    nets: NetTable,
+) -> Result<Walked, Refusal>
     requires formed { IsWellFormed source.now.netlist.now }
     requires plan { IsPlan source.now.netlist.now source.now.plan.now }
     requires top { source.now.top.now ≡ cell_at source.now.netlist.now [] }
+    requires sight { IsSight start }
+    requires same { start.netlist.now ≡ source.now.netlist.now }
+    requires outside { start.levels.items ≡ [] }
+    requires lists { AreListed start.indexes (all_cells source.now.netlist.now) source.now.lists.now.cells.items }
     requires nets { known_nets source.now.plan.now.cards [] nets ≡ nets_behind source.now.netlist.now [] }
     requires within { All (λ r. (r.instance ≤ 0) × (r.name < length source.now.plan.now.cards.names)) nets }
     requires room { length nets ≤ 1000000 }
@@ -52,7 +65,7 @@ fn walk(alloc: Global, source: &Source<'_>, nets: NetTable) -> Result<Walked, Re
         devices: Vec::new(alloc),
         groups: Vec::new(alloc),
     };
-    let mut levels: Vec<Level<'_>> = Vec::new(alloc);
+    let mut sight = start;
     let mut above: Vec<Mark<'_>> = Vec::new(alloc);
     let mut mark = Mark {
         instance: 0,
@@ -65,12 +78,13 @@ fn walk(alloc: Global, source: &Source<'_>, nets: NetTable) -> Result<Walked, Re
             let Some(up) = above.pop() else {
                 return Ok(Walked { instances, made });
             };
-            levels.pop();
+            sight.leave();
             mark = up;
             continue 'visits;
         }
         let item = mark.cell.items.get(mark.next);
         let plans = &source.plan.cells[mark.plan];
+        let lists = &source.lists.cells[mark.plan];
         mark.next += 1;
         match (item, &plans.items[mark.next - 1]) {
             (Item::Device(card), ItemPlan::Device(number, device)) => {
@@ -78,7 +92,7 @@ fn walk(alloc: Global, source: &Source<'_>, nets: NetTable) -> Result<Walked, Re
                     alloc,
                     source,
                     &instances,
-                    &levels,
+                    &sight,
                     mark.instance,
                     card,
                     *number,
@@ -92,10 +106,15 @@ fn walk(alloc: Global, source: &Source<'_>, nets: NetTable) -> Result<Walked, Re
                     parent: mark.instance,
                     card: *number,
                 };
-                let instance = enter(&mut instances, levels.len(), row, card.line)?;
+                let instance = enter(&mut instances, sight.depth(), row, card.line)?;
                 let cell = cell_of(source.netlist, *plan);
+                let used = &source.lists.cells[*plan as usize];
+                let numbers = Lists {
+                    card: lists.items[mark.next - 1],
+                    cell: used.own,
+                };
                 above.push(mark)?;
-                levels.push(Level { card, cell })?;
+                sight.enter(Level { card, cell }, numbers)?;
                 mark = Mark {
                     instance,
                     cell,
@@ -150,11 +169,15 @@ pub fn flatten(alloc: Global, netlist: &Netlist) -> Result<Flat, Refusal>
 {
     let plan = plan_of(alloc, netlist)?;
     let nets = opened(alloc, &plan)?;
+    let top = cell_of(netlist, plan.top);
+    let mut sight = Sight::new(alloc, netlist, top)?;
+    let lists = lists_of(alloc, netlist, &mut sight)?;
     let source = Source {
         netlist,
-        top: cell_of(netlist, plan.top),
+        top,
         plan: &plan,
+        lists: &lists,
     };
-    let walked = walk(alloc, &source, nets)?;
+    let walked = walk(alloc, &source, sight, nets)?;
     Ok(list_of(alloc, netlist, plan, walked)?)
 }

@@ -1,11 +1,19 @@
--- The end of a run that stops at a fault.
-use Rattle.std.specs.Prelude.{◌≡◌}
-use Rattle.cvc_run.specs.Refusals.{refusal}
-use Rattle.cvc_run.specs.declared.status.Status.{Status}
-use Rattle.cvc_run.specs.declared.stop.Stop.{Stop}
-use Rattle.cvc_run.specs.declared.stop.Stop.TheVariants.{At, NoMemory}
-use Rattle.cvc_run.specs.declared.text.End.{End}
+-- What the steps of a run answer: what the definition says, or its refusal; a read fault, which has a cause; or want of memory, which is free.
+use Rattle.std.specs.Prelude.{◌≡◌, Result, Ok, Err}
+use Rattle.cvc_run.specs.Said.{Refused as RefusedBy, refused_with}
+use Rattle.cvc_run.specs.declared.stop.RunStop.{RunStop}
+use Rattle.cvc_run.specs.declared.stop.RunStop.TheVariants.{Refused, Read, NoMemory}
 
-abbrev pub IsRefused : Status → Stop → End → Type 0
-IsRefused status (At fault) end = (end.status ≡ status) × (end.text.items ≡ refusal fault)
-IsRefused status NoMemory end = ⊥
+-- the answer is what the definition says, seen through the view, or its refusal
+abbrev pub Says : {A B : Type 0} → (A → B) → Result A RunStop → Result B RefusedBy → Type 0
+Says view (Ok x) wanted = wanted ≡ Ok (view x)
+Says view (Err (Refused status fault)) wanted = wanted ≡ Err (refused_with status fault)
+Says view (Err Read) wanted = Unit {0}
+Says view (Err NoMemory) wanted = Unit {0}
+
+-- a read fault is answered only with this cause
+abbrev pub ReadOnlyWhere : {A : Type 0} → Result A RunStop → Type 0 → Type 0
+ReadOnlyWhere (Err Read) cause = cause
+ReadOnlyWhere (Err (Refused status fault)) cause = Unit {0}
+ReadOnlyWhere (Err NoMemory) cause = Unit {0}
+ReadOnlyWhere (Ok x) cause = Unit {0}

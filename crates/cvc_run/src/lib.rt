@@ -1,25 +1,19 @@
-//! The whole run of a check: from the words and the three files to the report or the refusal, and the status.
+//! A whole run of a check: from the files of a job, or a generated circuit, to the report or the refusal, and the status.
+//!
+//! `specs/Said` has what the files say, `specs/Outcome` the status and the text that follow.
 #![tactic(auto)]
 
-mod design;
-mod findings;
-mod forms;
-mod job;
+mod bound;
 mod judged;
-mod labels;
-mod nets;
-mod outcome;
-mod rows;
+mod load;
+mod netlist;
 mod run;
-mod scan;
+mod stages;
 mod status;
 mod stop;
-mod text;
-mod words;
+mod telling;
 
-pub use job::Job;
-pub use run::{check_serial, top};
+pub use load::{LoadFault, load_file};
+pub use run::{check, check_serial, survey};
+pub use stages::{Design, load_design};
 pub use status::Status;
-
-#[cfg(test)]
-mod tests;

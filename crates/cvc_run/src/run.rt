@@ -1,70 +1,74 @@
-//! The runs of the program.
-ghost use Rattle.std.specs.Prelude.{◌≡◌, ◌++◌, ◌≤◌, ◌⊎◌, None, MatchResult, length, take, ℕ};
-ghost use Rattle.std.specs.Io.KnownBytes.{append_known};
-ghost use Rattle.cvc_io.specs.Causes.{Rose};
-ghost use Rattle.cvc_run.specs.Outcome.{Answers, AnswersJob, AcceptedIsAnswered, Answered, EndsWords, WritesAll, outside};
+//! The runs of a check.
+ghost use Rattle.std.specs.Prelude.{◌≡◌, ◌≤◌, None, IfOk, IfSome};
+ghost use Rattle.cvc_run.specs.Due.{DueFailed, job_readings};
+ghost use Rattle.cvc_run.specs.Judged.{IsJudged, judged_whole};
+ghost use Rattle.cvc_run.specs.Outcome.{AcceptedIsAnswered, JobIsAnswered, JobOutcome, SurveyOutcome, survey_said};
+ghost use Rattle.cvc_run.specs.Outside.{Answers, taken};
+ghost use Rattle.cvc_run.specs.Said.{bound_of_job};
+ghost use Rattle.cvc_run.specs.Shelves.{Leaves};
+ghost use Rattle.cvc_run.specs.Stops.{ReadOnlyWhere, Says};
 
-use crate::outcome::outcome;
-use crate::scan::Unread;
-use crate::text::{End, word_refusal_text};
-use crate::words::job_of;
-use crate::{Job, Status};
-use cvc_base::{NoMemory, Texts};
+use crate::Status;
+use crate::bound::{bind_files, bind_texts};
+use crate::judged::{Judged, judge, judge_serial};
+use crate::stop::RunStop;
+use crate::telling::{Telling, tell};
+use cvc_gen::netlist_of;
 use cvc_io::{Shelf, Sink};
+use cvc_words::Job;
 use std::alloc::Global;
 use std::sync::Wait;
 use std::thread::Threads;
 
-// Writes the whole text, as far as the sink takes it.
-fn write_all<K: Sink>(sink: &mut K, text: &[u8]) -> bool
-    ensures counts { K.faults sink.old ≤ K.faults sink.new }
-    ensures written { WritesAll result text.now (K.written sink.old) (K.written sink.new) (K.faults sink.old) (K.faults sink.new) }
-{
-    let mut done = 0;
-    while done < text.len() {
-        let Ok(count) = sink.write(&text[done..]) else {
-            return false;
-        };
-        done += count;
-    }
-    true
-}
-
-// Writes the refusal of words that ask for nothing that is built.
-fn refuse_words<K: Sink>(alloc: Global, sink: &mut K) -> Status
-    ensures { EndsWords result (K.written sink.old) (K.written sink.new) (K.faults sink.old) (K.faults sink.new) }
-{
-    let Ok(text) = word_refusal_text(alloc, b"not-built") else {
-        return Status::NoMemory;
-    };
-    if write_all(sink, &text) {
-        Status::Words
-    } else {
-        Status::WriteFault
-    }
-}
-
-fn run_job<S: Shelf, K: Sink>(alloc: Global, job: &Job, shelf: &mut S, sink: &mut K) -> Status
+// The judged circuit of a job's files, on one thread.
+fn judge_files_serial<S: Shelf>(alloc: Global, job: &Job, shelf: &mut S) -> Result<Judged, RunStop>
     requires { S.standing shelf.old ≡ None }
-    ensures closed { S.standing shelf.new ≡ None }
-    ensures files { S.files shelf.new ≡ S.files shelf.old }
-    ensures answer { AnswersJob (outside (S.files shelf.old) (S.faults shelf.old) (S.faults shelf.new) (K.written sink.old) (K.written sink.new) (K.faults sink.old) (K.faults sink.new)) job.now result }
+    ensures shelf { Leaves (S.standing shelf.new) (S.files shelf.old) (S.files shelf.new) (S.faults shelf.old) (S.faults shelf.new) }
+    ensures said { IfSome (S.files shelf.old) (λ fs. Says judged_whole result (bound_of_job fs job.now)) }
+    ensures cause { ReadOnlyWhere result (DueFailed (job_readings (S.files shelf.old) job.now) (S.faults shelf.old) (S.faults shelf.new)) }
+    ensures judged { IfOk result IsJudged }
 {
-    match outcome(alloc, job, shelf) {
-        Ok(end) => {
-            if write_all(sink, &end.text) {
-                end.status
-            } else {
-                Status::WriteFault
-            }
-        }
-        Err(Unread::ReadFault) => Status::ReadFault,
-        Err(Unread::NoMemory) => Status::NoMemory,
-    }
+    let bound = bind_files(alloc, job, shelf)?;
+    Ok(judge_serial(alloc, bound)?)
 }
 
-/// Checks a netlist on one thread: reads the job's three files, and writes the report of the least voltage family or the line of the first
-/// refusal. Reading and binding take time and memory linear in the files. It always returns, and leaves no file open.
+// The judged circuit of a job's files.
+fn judge_files<S: Shelf>(
+    rt: &(impl Threads + Sync),
+    alloc: Global,
+    job: &Job,
+    shelf: &mut S,
+) -> Result<Judged, RunStop>
+    requires { S.standing shelf.old ≡ None }
+    ensures shelf { Leaves (S.standing shelf.new) (S.files shelf.old) (S.files shelf.new) (S.faults shelf.old) (S.faults shelf.new) }
+    ensures said { IfSome (S.files shelf.old) (λ fs. Says judged_whole result (bound_of_job fs job.now)) }
+    ensures cause { ReadOnlyWhere result (DueFailed (job_readings (S.files shelf.old) job.now) (S.faults shelf.old) (S.faults shelf.new)) }
+    ensures judged { IfOk result IsJudged }
+{
+    let bound = bind_files(alloc, job, shelf)?;
+    Ok(judge(rt, alloc, bound)?)
+}
+
+// The judged circuit of the generated texts of this seed and size.
+fn judge_generated(
+    rt: &(impl Threads + Sync),
+    alloc: Global,
+    seed: u64,
+    size: u32,
+) -> Result<Judged, RunStop>
+    requires some { 1 ≤ size }
+    requires limit { size ≤ 200000 }
+    ensures said { Says judged_whole result (survey_said seed size) }
+    ensures unread { ReadOnlyWhere result ⊥ }
+    ensures judged { IfOk result IsJudged }
+{
+    let texts = netlist_of(alloc, seed, size)?;
+    let bound = bind_texts(alloc, &texts)?;
+    Ok(judge(rt, alloc, bound)?)
+}
+
+/// Checks a netlist on one thread: reads the job's three files, and writes the report of the least voltage family, or the line of the first refusal.
+/// The job's number of workers means nothing here. It always returns, and leaves no file open.
 pub fn check_serial<S: Shelf, K: Sink>(
     alloc: Global,
     job: &Job,
@@ -72,43 +76,55 @@ pub fn check_serial<S: Shelf, K: Sink>(
     sink: &mut K,
 ) -> Status
     requires { S.standing shelf.old ≡ None }
-    ensures closed { S.standing shelf.new ≡ None }
-    ensures files { S.files shelf.new ≡ S.files shelf.old }
+    ensures shelf { Leaves (S.standing shelf.new) (S.files shelf.old) (S.files shelf.new) (S.faults shelf.old) (S.faults shelf.new) }
+    ensures sink { K.faults sink.old ≤ K.faults sink.new }
     // The status and the bytes are the outcome's, or a fault of the outside came in this call, or memory ran out.
-    ensures answer { AnswersJob (outside (S.files shelf.old) (S.faults shelf.old) (S.faults shelf.new) (K.written sink.old) (K.written sink.new) (K.faults sink.old) (K.faults sink.new)) job.now result }
-    ensures answered { AcceptedIsAnswered (outside (S.files shelf.old) (S.faults shelf.old) (S.faults shelf.new) (K.written sink.old) (K.written sink.new) (K.faults sink.old) (K.faults sink.new)) job.now result }
+    ensures answer { Answers (JobOutcome (S.files shelf.old) job.now) (DueFailed (job_readings (S.files shelf.old) job.now) (S.faults shelf.old) (S.faults shelf.new)) (taken (K.written sink.old) (K.written sink.new) (K.faults sink.old) (K.faults sink.new)) result }
+    ensures answered { JobIsAnswered (S.files shelf.old) job.now (DueFailed (job_readings (S.files shelf.old) job.now) (S.faults shelf.old) (S.faults shelf.new)) (taken (K.written sink.old) (K.written sink.new) (K.faults sink.old) (K.faults sink.new)) result }
 {
-    run_job(alloc, job, shelf, sink)
+    let run = judge_files_serial(alloc, job, shelf);
+    tell(&run, Telling::Report { nets: job.nets }, sink)
 }
 
-fn run_words<S: Shelf, K: Sink>(alloc: Global, words: &Texts, shelf: &mut S, sink: &mut K) -> Status
-    requires { S.standing shelf.old ≡ None }
-    ensures closed { S.standing shelf.new ≡ None }
-    ensures files { S.files shelf.new ≡ S.files shelf.old }
-    ensures answer { Answers (outside (S.files shelf.old) (S.faults shelf.old) (S.faults shelf.new) (K.written sink.old) (K.written sink.new) (K.faults sink.old) (K.faults sink.new)) words.now result }
-{
-    match job_of(alloc, words) {
-        Ok(Some(job)) => run_job(alloc, &job, shelf, sink),
-        Ok(None) => refuse_words(alloc, sink),
-        Err(NoMemory) => Status::NoMemory,
-    }
-}
-
-/// All that the program does: it takes the words of the command line behind the program's name, reads the files that they name from the
-/// shelf, and writes the report or the line of the first refusal to the sink. No file is left open.
-pub fn top<R: Threads + Wait, S: Shelf, K: Sink>(
-    _rt: &R,
+/// Checks a netlist: the same answer as that of `check_serial`. The findings are listed by many threads. It leaves no file open.
+pub fn check<R: Threads + Wait + Sync, S: Shelf, K: Sink>(
+    rt: &R,
     alloc: Global,
-    words: &Texts,
+    job: &Job,
     shelf: &mut S,
     sink: &mut K,
 ) -> Status
-    requires { S.standing shelf.old ≡ None }
-    ensures closed { S.standing shelf.new ≡ None }
-    ensures files { S.files shelf.new ≡ S.files shelf.old }
+    requires closed { S.standing shelf.old ≡ None }
+    requires some { 1 ≤ job.now.workers }
+    requires limit { job.now.workers ≤ 64 }
+    ensures shelf { Leaves (S.standing shelf.new) (S.files shelf.old) (S.files shelf.new) (S.faults shelf.old) (S.faults shelf.new) }
+    ensures sink { K.faults sink.old ≤ K.faults sink.new }
     // The status and the bytes are the outcome's, or a fault of the outside came in this call, or memory ran out.
-    ensures answer { Answers (outside (S.files shelf.old) (S.faults shelf.old) (S.faults shelf.new) (K.written sink.old) (K.written sink.new) (K.faults sink.old) (K.faults sink.new)) words.now result }
-    ensures answered { Answered (outside (S.files shelf.old) (S.faults shelf.old) (S.faults shelf.new) (K.written sink.old) (K.written sink.new) (K.faults sink.old) (K.faults sink.new)) words.now result }
+    ensures answer { Answers (JobOutcome (S.files shelf.old) job.now) (DueFailed (job_readings (S.files shelf.old) job.now) (S.faults shelf.old) (S.faults shelf.new)) (taken (K.written sink.old) (K.written sink.new) (K.faults sink.old) (K.faults sink.new)) result }
+    ensures answered { JobIsAnswered (S.files shelf.old) job.now (DueFailed (job_readings (S.files shelf.old) job.now) (S.faults shelf.old) (S.faults shelf.new)) (taken (K.written sink.old) (K.written sink.new) (K.faults sink.old) (K.faults sink.new)) result }
 {
-    run_words(alloc, words, shelf, sink)
+    let run = judge_files(rt, alloc, job, shelf);
+    tell(&run, Telling::Report { nets: job.nets }, sink)
+}
+
+/// Checks the netlist that is generated from the seed, with `size` stages, and writes a summary: how many findings each rule has.
+pub fn survey<R: Threads + Wait + Sync, K: Sink>(
+    rt: &R,
+    alloc: Global,
+    seed: u64,
+    size: u32,
+    _workers: u32,
+    sink: &mut K,
+) -> Status
+    requires some { 1 ≤ size }
+    requires limit { size ≤ 200000 }
+    requires some_workers { 1 ≤ _workers }
+    requires most_workers { _workers ≤ 64 }
+    ensures sink { K.faults sink.old ≤ K.faults sink.new }
+    // The status and the bytes are the outcome's, or the sink failed in this call, or memory ran out.
+    ensures answer { Answers (SurveyOutcome seed size) ⊥ (taken (K.written sink.old) (K.written sink.new) (K.faults sink.old) (K.faults sink.new)) result }
+    ensures answered { AcceptedIsAnswered (SurveyOutcome seed size) (survey_said seed size) ⊥ (taken (K.written sink.old) (K.written sink.new) (K.faults sink.old) (K.faults sink.new)) result }
+{
+    let run = judge_generated(rt, alloc, seed, size);
+    tell(&run, Telling::Summary { seed, size }, sink)
 }

@@ -1,44 +1,26 @@
-//! Why the files say nothing.
+//! Why a run stops before its text is written.
 
+use crate::Status;
 use cvc_base::{Fault, NoMemory};
-use std::alloc::{AllocError, AllocFailed};
 
-/// Why what is read says nothing: its first fault, or want of memory.
-#[derive(Clone, Copy)]
-pub(crate) enum Stop {
-    At(Fault),
+/// Why a run stops before its text is written.
+#[derive(Clone, Copy, Debug)]
+pub(crate) enum RunStop {
+    /// A file, or the binding of all files, is refused, with this status.
+    Refused(Status, Fault),
+    /// A file could not be opened or read.
+    Read,
+    /// There was no memory.
     NoMemory,
 }
 
-impl From<NoMemory> for Stop {
+impl From<NoMemory> for RunStop {
     ghost use Rattle.std.specs.Prelude.{◌≡◌};
-    ghost use Rattle.cvc_run.specs.declared.stop.Stop.TheVariants as stop;
+    ghost use Rattle.cvc_run.specs.declared.stop.RunStop.TheVariants as stops;
 
-    ghost from_gives = { λ _ s. s ≡ stop.NoMemory };
+    ghost from_gives = { λ _ e. e ≡ stops.NoMemory };
 
-    fn from(_: NoMemory) -> Stop {
-        Stop::NoMemory
-    }
-}
-
-impl From<AllocError> for Stop {
-    ghost use Rattle.std.specs.Prelude.{◌≡◌};
-    ghost use Rattle.cvc_run.specs.declared.stop.Stop.TheVariants as stop;
-
-    ghost from_gives = { λ _ s. s ≡ stop.NoMemory };
-
-    fn from(_: AllocError) -> Stop {
-        Stop::NoMemory
-    }
-}
-
-impl<T: Drop> From<AllocFailed<T>> for Stop {
-    ghost use Rattle.std.specs.Prelude.{◌≡◌};
-    ghost use Rattle.cvc_run.specs.declared.stop.Stop.TheVariants as stop;
-
-    ghost from_gives = { λ _ s. s ≡ stop.NoMemory };
-
-    fn from(_: AllocFailed<T>) -> Stop {
-        Stop::NoMemory
+    fn from(_: NoMemory) -> RunStop {
+        RunStop::NoMemory
     }
 }

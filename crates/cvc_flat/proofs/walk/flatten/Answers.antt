@@ -37,3 +37,20 @@ returns-clause-flat c =
     let none : opening_fault limits [] (openings n) ≡ None = sym (ap (opening_fault limits []) c.in_ok-plan.ensures.openings) ∙ c.in_ok-nets.ensures.refused in
     no_fault n none c.in_ok-walked.ensures.refused
     ∙ ap Ok (sym (shown_list n plan walked.instances.items walked.made (visits_of limits n) c.in_ok-plan.ensures.globals c.in_ok-walked.ensures.shows) ∙ ap (λ (h : Held). h.list) (sym c.in_ok-list_of.ensures))
+
+pub walk-requires-clause-sight : goal.walk-requires-clause-sight
+walk-requires-clause-sight c = c.in_ok-lists.ensures.more.sight
+
+pub walk-requires-clause-same : goal.walk-requires-clause-same
+walk-requires-clause-same c = c.in_ok-lists.ensures.more.netlist ∙ c.in_ok-sight.ensures.netlist
+
+pub walk-requires-clause-outside : goal.walk-requires-clause-outside
+walk-requires-clause-outside c = c.in_ok-lists.ensures.more.levels ∙ c.in_ok-sight.ensures.levels
+
+pub walk-requires-clause-lists : goal.walk-requires-clause-lists
+walk-requires-clause-lists c = c.in_ok-lists.ensures.listed
+
+pub returns-in_err-lists-clause-fault : goal.returns-in_err-lists-clause-fault
+returns-in_err-lists-clause-fault c =
+    let w = err_from_is_err_and c.from_residual-in_err-lists.result c.from_residual-in_err-lists.ensures.1 in
+    rw (w.1, w.2) tt

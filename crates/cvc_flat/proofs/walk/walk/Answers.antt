@@ -1,6 +1,6 @@
-use Rattle.std.proofs.Common.{◌≡◌, ℕ, ◌+◌, ◌-◌, ◌<◌, length, take, vec_len, get_or, refl, sym, ap, subst, ◌∙◌, arith}
+use Rattle.std.proofs.Common.{◌≡◌, ℕ, ◌+◌, ◌-◌, ◌<◌, ◌≤◌, ◌∷◌, ◌++◌, [], List, length, take, vec_len, get_or, refl, sym, ap, subst, ◌∙◌, arith}
 use Rattle.std.proofs.lemmas.Result.{err_from_is_err_and}
-use Rattle.std.specs.Prelude.{Err}
+use Rattle.std.specs.Prelude.{Err, None}
 use Rattle.std.specs.Option.{option_map}
 use Rattle.cvc_base.specs.Answers.{Refuses}
 use Rattle.cvc_cdl.specs.declared.netlist.Item.TheVariants as items
@@ -15,6 +15,7 @@ use Rattle.cvc_flat.specs.Nets.{path_of as path_in}
 use Rattle.cvc_flat.specs.Planning.{IsInstPlan, IsItemPlan}
 use Rattle.cvc_flat.specs.Tables.{path_of, way_at, ways_of}
 use Rattle.cvc_flat.proofs.States.{added_same, cause_same, fault_device, fault_instance, here, item_formed, item_planned, items_planned, path_here, plan_inside, same_item, state_begins, state_device, state_done, state_entered, state_pops}
+use Rattle.cvc_flat.proofs.Seen.{card_listed, items_listed, lists_inside, sees_on, some_level, used_cell, used_inside, used_listed}
 use Rattle.cvc_flat.proofs.walk.walk.Goals as goal
 use Rattle.cvc_flat.proofs.walk.walk.Goals.{in_default-2-via-in-Device+in_default, in_default-2-via-in-Inst+in_default}
 
@@ -22,8 +23,11 @@ pub visits-init : goal.visits-init
 visits-init c =
     let n = c.args.source.now.netlist.now in
     let p = c.args.source.now.plan.now in
-    state_begins n p record { nets = c.args.nets; devices = c.new.result; groups = c.new-2.result } record { instance = 0; cell = c.args.source.now.top; plan = p.top; next = 0 } c.requires.plan c.requires.top refl refl refl c.new.ensures.items c.new-2.ensures.items c.requires.nets c.requires.within c.requires.room
-    c.new-instances.result.items c.new-levels.result.items c.new-above.result.items c.new-instances.ensures.items c.new-levels.ensures.items c.new-above.ensures.items
+    record {
+      state = state_begins n p record { nets = c.args.nets; devices = c.new.result; groups = c.new-2.result } record { instance = 0; cell = c.args.source.now.top; plan = p.top; next = 0 } c.requires.plan c.requires.top refl refl refl c.new.ensures.items c.new-2.ensures.items c.requires.nets c.requires.within c.requires.room
+          c.new-instances.result.items c.args.start.levels.items c.new-above.result.items c.new-instances.ensures.items c.requires.outside c.new-above.ensures.items;
+      sees = record { sight = c.requires.sight; same = c.requires.same; listed = c.requires.lists };
+    }
 
 pub returns-in_default-clause-refused : goal.returns-in_default-clause-refused
 returns-in_default-clause-refused c =
@@ -31,10 +35,10 @@ returns-in_default-clause-refused c =
     let p = c.args.source.now.plan.now in
     let rows = c.visits.instances.items in
     let made = c.visits.made in
-    let levels = c.visits.levels.items in
+    let levels = c.visits.sight.levels.items in
     let mark = c.visits.mark in
     let above = c.visits.above.items in
-    let s = c.visits.invariant in
+    let s = c.visits.invariant.state in
     (state_done n p rows made mark levels above s (omega (arith, c.in_default.ensures.cases)) (omega (arith, c.len.ensures, c.if-mark-len.true))).1
 
 pub returns-in_default-clause-shows : goal.returns-in_default-clause-shows
@@ -43,10 +47,10 @@ returns-in_default-clause-shows c =
     let p = c.args.source.now.plan.now in
     let rows = c.visits.instances.items in
     let made = c.visits.made in
-    let levels = c.visits.levels.items in
+    let levels = c.visits.sight.levels.items in
     let mark = c.visits.mark in
     let above = c.visits.above.items in
-    let s = c.visits.invariant in
+    let s = c.visits.invariant.state in
     (state_done n p rows made mark levels above s (omega (arith, c.in_default.ensures.cases)) (omega (arith, c.len.ensures, c.if-mark-len.true))).0
 
 pub visits-preserved-then-mark-len : goal.visits-preserved-then-mark-len
@@ -55,12 +59,26 @@ visits-preserved-then-mark-len c =
     let p = c.args.source.now.plan.now in
     let rows = c.visits.instances.items in
     let made = c.visits.made in
-    let levels = c.visits.levels.items in
+    let levels = c.visits.sight.levels.items in
     let mark = c.visits.mark in
     let above = c.visits.above.items in
-    let s = c.visits.invariant in
-    let shorter : length levels - 1 ≡ vec_len c.visits.levels - 1 = omega arith in
-    state_pops n p rows made mark levels c.pop-then-mark-len.new.self.items c.in-Some.up above c.pop.new.self.items s c.in-Some.ensures.items (c.pop-then-mark-len.ensures.rest ∙ ap (λ j. take j levels) (sym shorter)) (omega (arith, c.len.ensures, c.if-mark-len.true))
+    let s = c.visits.invariant.state in
+    record {
+      state = state_pops n p rows made mark levels c.leave.new.self.levels.items c.in-Some.up above c.pop.new.self.items s c.in-Some.ensures.items c.leave.ensures.levels (omega (arith, c.len.ensures, c.if-mark-len.true));
+      sees = sees_on n c.args.source.now.lists.now.cells.items c.visits.sight c.leave.new.self c.visits.invariant.sees c.leave.ensures.sight c.leave.ensures.same;
+    }
+
+pub leave-requires-clause-some : goal.leave-requires-clause-some
+leave-requires-clause-some c =
+    let n = c.args.source.now.netlist.now in
+    let p = c.args.source.now.plan.now in
+    some_level n p c.visits.instances.items c.visits.made c.visits.mark c.visits.sight.levels.items c.visits.above.items c.pop.new.self.items c.in-Some.up c.visits.invariant.state c.in-Some.ensures.items
+
+pub index-lists-requires : goal.index-lists-requires
+index-lists-requires c =
+    let n = c.args.source.now.netlist.now in
+    let p = c.args.source.now.plan.now in
+    omega (arith, lists_inside n p c.visits.instances.items c.visits.made c.visits.sight.levels.items c.visits.mark c.visits.above.items c.visits.invariant.state c.visits.sight.indexes c.args.source.now.lists.now.cells.items c.visits.invariant.sees.listed)
 
 pub index-plans-requires : goal.index-plans-requires
 index-plans-requires c =
@@ -68,10 +86,10 @@ index-plans-requires c =
     let p = c.args.source.now.plan.now in
     let rows = c.visits.instances.items in
     let made = c.visits.made in
-    let levels = c.visits.levels.items in
+    let levels = c.visits.sight.levels.items in
     let mark = c.visits.mark in
     let above = c.visits.above.items in
-    let s = c.visits.invariant in
+    let s = c.visits.invariant.state in
     omega (arith, plan_inside n p rows made levels mark above s c.requires.plan)
 
 pub index-requires : goal.index-requires
@@ -80,10 +98,10 @@ index-requires c =
     let p = c.args.source.now.plan.now in
     let rows = c.visits.instances.items in
     let made = c.visits.made in
-    let levels = c.visits.levels.items in
+    let levels = c.visits.sight.levels.items in
     let mark = c.visits.mark in
     let above = c.visits.above.items in
-    let s = c.visits.invariant in
+    let s = c.visits.invariant.state in
     let inside : mark.next < length mark.cell.now.items = omega (arith, c.len.ensures, c.if-mark-len.false) in
     omega (arith, items_planned n p rows made levels mark above s c.requires.plan c.index-plans.result.now c.index-plans.ensures, inside)
 
@@ -93,10 +111,10 @@ place-requires-clause-inside c =
     let p = c.args.source.now.plan.now in
     let rows = c.visits.instances.items in
     let made = c.visits.made in
-    let levels = c.visits.levels.items in
+    let levels = c.visits.sight.levels.items in
     let mark = c.visits.mark in
     let above = c.visits.above.items in
-    let s = c.visits.invariant in
+    let s = c.visits.invariant.state in
     omega (arith, (here n p rows made levels mark above s).inside, ap length c.deref.ensures.value)
 
 pub place-requires-clause-path : goal.place-requires-clause-path
@@ -105,11 +123,11 @@ place-requires-clause-path c =
     let p = c.args.source.now.plan.now in
     let rows = c.visits.instances.items in
     let made = c.visits.made in
-    let levels = c.visits.levels.items in
+    let levels = c.visits.sight.levels.items in
     let mark = c.visits.mark in
     let above = c.visits.above.items in
-    let s = c.visits.invariant in
-    ap (λ r. path_of p.cards.names p.cards.parts.items (way_at (ways_of r) mark.instance)) c.deref.ensures.value ∙ path_here n p rows made levels mark above s ∙ ap (λ l. path_in n (instance_of l)) (sym c.deref-in-Device-Device.ensures.value)
+    let s = c.visits.invariant.state in
+    ap (λ r. path_of p.cards.names p.cards.parts.items (way_at (ways_of r) mark.instance)) c.deref.ensures.value ∙ path_here n p rows made levels mark above s
 
 pub place-requires-clause-device : goal.place-requires-clause-device
 place-requires-clause-device c =
@@ -117,10 +135,10 @@ place-requires-clause-device c =
     let p = c.args.source.now.plan.now in
     let rows = c.visits.instances.items in
     let made = c.visits.made in
-    let levels = c.visits.levels.items in
+    let levels = c.visits.sight.levels.items in
     let mark = c.visits.mark in
     let above = c.visits.above.items in
-    let s = c.visits.invariant in
+    let s = c.visits.invariant.state in
     let inside : mark.next < length mark.cell.now.items = omega (arith, c.len.ensures, c.if-mark-len.false) in
     let item = c.get-item.result.now in
     let k = c.index-plans.result.now in
@@ -136,10 +154,10 @@ place-requires-clause-formed c =
     let p = c.args.source.now.plan.now in
     let rows = c.visits.instances.items in
     let made = c.visits.made in
-    let levels = c.visits.levels.items in
+    let levels = c.visits.sight.levels.items in
     let mark = c.visits.mark in
     let above = c.visits.above.items in
-    let s = c.visits.invariant in
+    let s = c.visits.invariant.state in
     let inside : mark.next < length mark.cell.now.items = omega (arith, c.len.ensures, c.if-mark-len.false) in
     subst (IsFormedItem n.cells) c.in-Device-Device.is-0 (item_formed n p rows made levels mark above s c.requires.plan c.requires.formed c.get-item.result.now inside c.get-item.ensures)
 
@@ -149,15 +167,15 @@ returns-in_err-place-in-Device-Device-clause-refused c =
     let p = c.args.source.now.plan.now in
     let rows = c.visits.instances.items in
     let made = c.visits.made in
-    let levels = c.visits.levels.items in
+    let levels = c.visits.sight.levels.items in
     let mark = c.visits.mark in
     let above = c.visits.above.items in
-    let s = c.visits.invariant in
+    let s = c.visits.invariant.state in
     let inside : mark.next < length mark.cell.now.items = omega (arith, c.len.ensures, c.if-mark-len.false) in
     let is : get_or mark.cell.now.items mark.next (items.Device c.in-Device-Device.card) ≡ items.Device c.in-Device-Device.card = same_item mark.cell.now.items mark.next c.get-item.result.now (items.Device c.in-Device-Device.card) c.get-item.ensures c.in-Device-Device.is-0 in
     let w = err_from_is_err_and c.from_residual.result c.from_residual.ensures.1 in
     rw (w.1, w.2) (fault_device n p rows made levels mark above s inside (Unit {0}) Walked c.in-Device-Device.card c.in_err-place-in-Device-Device.field-0.0 is
-    (cause_same (Unit {0}) n p c.deref.result.now rows made levels c.deref-in-Device-Device.result.now c.in-Device-Device.card (Err c.in_err-place-in-Device-Device.field-0.0) c.deref.ensures.value c.deref-in-Device-Device.ensures.value c.in_err-place-in-Device-Device.ensures.refused))
+    (cause_same (Unit {0}) n p c.deref.result.now rows made levels levels c.in-Device-Device.card (Err c.in_err-place-in-Device-Device.field-0.0) c.deref.ensures.value refl c.in_err-place-in-Device-Device.ensures.refused))
 
 pub visits-preserved-in-Device-Device : goal.visits-preserved-in-Device-Device
 visits-preserved-in-Device-Device c =
@@ -165,20 +183,21 @@ visits-preserved-in-Device-Device c =
     let p = c.args.source.now.plan.now in
     let rows = c.visits.instances.items in
     let made = c.visits.made in
-    let levels = c.visits.levels.items in
+    let levels = c.visits.sight.levels.items in
     let mark = c.visits.mark in
     let above = c.visits.above.items in
-    let s = c.visits.invariant in
+    let s = c.visits.invariant.state in
     let inside : mark.next < length mark.cell.now.items = omega (arith, c.len.ensures, c.if-mark-len.false) in
     let is : get_or mark.cell.now.items mark.next (items.Device c.in-Device-Device.card) ≡ items.Device c.in-Device-Device.card = same_item mark.cell.now.items mark.next c.get-item.result.now (items.Device c.in-Device-Device.card) c.get-item.ensures c.in-Device-Device.is-0 in
     let rows2 = c.deref.result.now in
-    let levels2 = c.deref-in-Device-Device.result.now in
     let same = c.deref.ensures.value in
-    let alike = c.deref-in-Device-Device.ensures.value in
     let card = c.in-Device-Device.card in
-    state_device n p rows made levels mark above s inside c.place.new.made card is
-    (sym (λ j. option_map (fault_at card.line) (device_cause_in limits n (length made.devices.items) (known_nets p.cards (same j) made.nets) (instance_of (alike j)) card)) ∙ c.in_ok-place-in-Device-Device.ensures.refused)
-    (added_same n p rows2 rows made c.place.new.made levels levels2 card same alike c.in_ok-place-in-Device-Device.ensures.added)
+    record {
+      state = state_device n p rows made levels mark above s inside c.place.new.made card is
+          (sym (λ j. option_map (fault_at card.line) (device_cause_in limits n (length made.devices.items) (known_nets p.cards (same j) made.nets) (instance_of levels) card)) ∙ c.in_ok-place-in-Device-Device.ensures.refused)
+          (added_same n p rows2 rows made c.place.new.made levels levels card same refl c.in_ok-place-in-Device-Device.ensures.added);
+      sees = c.visits.invariant.sees;
+    }
 
 pub returns-in_err-instance-in-Inst-Inst-clause-refused : goal.returns-in_err-instance-in-Inst-Inst-clause-refused
 returns-in_err-instance-in-Inst-Inst-clause-refused c =
@@ -186,14 +205,14 @@ returns-in_err-instance-in-Inst-Inst-clause-refused c =
     let p = c.args.source.now.plan.now in
     let rows = c.visits.instances.items in
     let made = c.visits.made in
-    let levels = c.visits.levels.items in
+    let levels = c.visits.sight.levels.items in
     let mark = c.visits.mark in
     let above = c.visits.above.items in
-    let s = c.visits.invariant in
+    let s = c.visits.invariant.state in
     let inside : mark.next < length mark.cell.now.items = omega (arith, c.len.ensures, c.if-mark-len.false) in
     let is : get_or mark.cell.now.items mark.next (items.Inst c.in-Inst-Inst.card) ≡ items.Inst c.in-Inst-Inst.card = same_item mark.cell.now.items mark.next c.get-item.result.now (items.Inst c.in-Inst-Inst.card) c.get-item.ensures c.in-Inst-Inst.is-0 in
     let w = err_from_is_err_and c.from_residual-in_err-instance-in-Inst-Inst.result c.from_residual-in_err-instance-in-Inst-Inst.ensures.1 in
-    let deep : c.len-in-Inst-Inst.result ≡ length levels = omega (arith, c.len-in-Inst-Inst.ensures) in
+    let deep : c.depth.result ≡ length levels = omega (arith, c.depth.ensures) in
     rw (w.1, w.2) (fault_instance n p rows made levels mark above s inside ℕ Walked c.in-Inst-Inst.card c.in_err-instance-in-Inst-Inst.field-0.0 is
     (subst (λ d. Refuses {A = ℕ} (option_map (fault_at c.in-Inst-Inst.card.line) (instance_cause_in limits (length rows) (d + 1))) (Err c.in_err-instance-in-Inst-Inst.field-0.0)) deep c.in_err-instance-in-Inst-Inst.ensures.refused))
 
@@ -203,10 +222,10 @@ cell_of-cell-requires c =
     let p = c.args.source.now.plan.now in
     let rows = c.visits.instances.items in
     let made = c.visits.made in
-    let levels = c.visits.levels.items in
+    let levels = c.visits.sight.levels.items in
     let mark = c.visits.mark in
     let above = c.visits.above.items in
-    let s = c.visits.invariant in
+    let s = c.visits.invariant.state in
     let inside : mark.next < length mark.cell.now.items = omega (arith, c.len.ensures, c.if-mark-len.false) in
     let item = c.get-item.result.now in
     let k = c.index-plans.result.now in
@@ -223,10 +242,10 @@ visits-preserved c =
     let p = c.args.source.now.plan.now in
     let rows = c.visits.instances.items in
     let made = c.visits.made in
-    let levels = c.visits.levels.items in
+    let levels = c.visits.sight.levels.items in
     let mark = c.visits.mark in
     let above = c.visits.above.items in
-    let s = c.visits.invariant in
+    let s = c.visits.invariant.state in
     let inside : mark.next < length mark.cell.now.items = omega (arith, c.len.ensures, c.if-mark-len.false) in
     let item = c.get-item.result.now in
     let k = c.index-plans.result.now in
@@ -236,11 +255,14 @@ visits-preserved c =
     let planned : IsItemPlan n p.cards item i = item_planned n p rows made levels mark above s c.requires.plan k item i c.index-plans.ensures inside c.get-item.ensures at in
     let is : get_or mark.cell.now.items mark.next (items.Inst c.in-Inst-Inst.card) ≡ items.Inst c.in-Inst-Inst.card = same_item mark.cell.now.items mark.next c.get-item.result.now (items.Inst c.in-Inst-Inst.card) c.get-item.ensures c.in-Inst-Inst.is-0 in
     let inst : IsInstPlan n p.cards c.in-Inst-Inst.card c.in-Inst-Inst.number c.in-Inst-Inst.plan = subst (λ it. IsItemPlan n p.cards it (plans.Inst c.in-Inst-Inst.number c.in-Inst-Inst.plan)) c.in-Inst-Inst.is-0 (subst (IsItemPlan n p.cards item) c.in-Inst-Inst.is-1 planned) in
-    let deep : c.len-in-Inst-Inst.result ≡ length levels = omega (arith, c.len-in-Inst-Inst.ensures) in
+    let deep : c.depth.result ≡ length levels = omega (arith, c.depth.ensures) in
     let e = c.in_ok-instance-in-Inst-Inst.ensures in
-    state_entered n p rows made levels mark above s inside c.requires.formed c.in-Inst-Inst.card c.in-Inst-Inst.number c.in-Inst-Inst.plan _ _ record { instance = c.in_ok-instance-in-Inst-Inst.instance; cell = c.cell_of-cell.result; plan = c.in-Inst-Inst.plan; next = 0 }
-    c.enter.new.instances.items c.push-in-Inst-Inst.new.self.items c.push.new.self.items c.in_ok-push-in-Inst-Inst-2.ensures.items e.rows c.in_ok-push-in-Inst-Inst.ensures.items is inst
-    (sym (ap (λ d. option_map (fault_at c.in-Inst-Inst.card.line) (instance_cause_in limits (length rows) (d + 1))) deep) ∙ e.refused) e.room (omega (arith, deep, e.short)) refl c.cell_of-cell.ensures refl refl e.number refl refl refl
+    record {
+      state = state_entered n p rows made levels mark above s inside c.requires.formed c.in-Inst-Inst.card c.in-Inst-Inst.number c.in-Inst-Inst.plan _ _ record { instance = c.in_ok-instance-in-Inst-Inst.instance; cell = c.cell_of-cell.result; plan = c.in-Inst-Inst.plan; next = 0 }
+          c.enter.new.instances.items c.enter-in-Inst-Inst.new.self.levels.items c.push.new.self.items c.in_ok-enter-in-Inst-Inst.ensures.levels e.rows c.in_ok-push-in-Inst-Inst.ensures.items is inst
+          (sym (ap (λ d. option_map (fault_at c.in-Inst-Inst.card.line) (instance_cause_in limits (length rows) (d + 1))) deep) ∙ e.refused) e.room (omega (arith, deep, e.short)) refl c.cell_of-cell.ensures refl refl e.number refl refl refl;
+      sees = sees_on n c.args.source.now.lists.now.cells.items c.visits.sight c.enter-in-Inst-Inst.new.self c.visits.invariant.sees c.in_ok-enter-in-Inst-Inst.ensures.sight c.in_ok-enter-in-Inst-Inst.ensures.same;
+    }
 
 pub unreachable-requires : goal.unreachable-requires
 unreachable-requires c =
@@ -248,10 +270,10 @@ unreachable-requires c =
     let p = c.args.source.now.plan.now in
     let rows = c.visits.instances.items in
     let made = c.visits.made in
-    let levels = c.visits.levels.items in
+    let levels = c.visits.sight.levels.items in
     let mark = c.visits.mark in
     let above = c.visits.above.items in
-    let s = c.visits.invariant in
+    let s = c.visits.invariant.state in
     let inside : mark.next < length mark.cell.now.items = omega (arith, c.len.ensures, c.if-mark-len.false) in
     let item = c.get-item.result.now in
     let k = c.index-plans.result.now in
@@ -260,8 +282,103 @@ unreachable-requires c =
     let at : i ≡ get_or k.items.items mark.next i = c.index.ensures ∙ ap (λ j. get_or k.items.items j i) back in
     let planned : IsItemPlan n p.cards item i = item_planned n p rows made levels mark above s c.requires.plan k item i c.index-plans.ensures inside c.get-item.ensures at in
     elim c.in_default-2.branch [
-      | in_default-2-via-in-Device+in_default w ↦
-          subst (λ it. IsItemPlan n p.cards it (plans.Inst w.in_default-2.field-0-1 w.in_default-2.field-1-1)) w.in_default-2.is-0 (subst (IsItemPlan n p.cards item) w.in_default-2.is-1 planned)
-      | in_default-2-via-in-Inst+in_default w ↦
-          subst (λ it. IsItemPlan n p.cards it (plans.Device w.in_default-2.field-0-1 w.in_default-2.field-1-1)) w.in_default-2.is-0 (subst (IsItemPlan n p.cards item) w.in_default-2.is-1 planned)
+      | in_default-2-via-in-Device+in_default w ↦ (let h = w.in_default-2 in subst (λ it. IsItemPlan n p.cards it (plans.Inst h.field-0-1 h.field-1-1)) h.is-0 (subst (IsItemPlan n p.cards item) h.is-1 planned))
+      | in_default-2-via-in-Inst+in_default w ↦ (let h = w.in_default-2 in subst (λ it. IsItemPlan n p.cards it (plans.Device h.field-0-1 h.field-1-1)) h.is-0 (subst (IsItemPlan n p.cards item) h.is-1 planned))
     ]
+
+pub index-used-requires : goal.index-used-requires
+index-used-requires c =
+    let n = c.args.source.now.netlist.now in
+    let p = c.args.source.now.plan.now in
+    let rows = c.visits.instances.items in
+    let made = c.visits.made in
+    let levels = c.visits.sight.levels.items in
+    let mark = c.visits.mark in
+    let above = c.visits.above.items in
+    let s = c.visits.invariant.state in
+    let inside : mark.next < length mark.cell.now.items = omega (arith, c.len.ensures, c.if-mark-len.false) in
+    let item = c.get-item.result.now in
+    let k = c.index-plans.result.now in
+    let i = c.index.result.now in
+    let back : mark.next + 1 - 1 ≡ mark.next = omega arith in
+    let at : i ≡ get_or k.items.items mark.next i = c.index.ensures ∙ ap (λ j. get_or k.items.items j i) back in
+    let planned : IsItemPlan n p.cards item i = item_planned n p rows made levels mark above s c.requires.plan k item i c.index-plans.ensures inside c.get-item.ensures at in
+    let inst : IsInstPlan n p.cards c.in-Inst-Inst.card c.in-Inst-Inst.number c.in-Inst-Inst.plan = subst (λ it. IsItemPlan n p.cards it (plans.Inst c.in-Inst-Inst.number c.in-Inst-Inst.plan)) c.in-Inst-Inst.is-0 (subst (IsItemPlan n p.cards item) c.in-Inst-Inst.is-1 planned) in
+    omega (arith, used_inside n c.visits.sight.indexes c.args.source.now.lists.now.cells.items c.visits.invariant.sees.listed c.in-Inst-Inst.plan inst.known)
+
+pub index-requires-in-Inst-Inst : goal.index-requires-in-Inst-Inst
+index-requires-in-Inst-Inst c =
+    let n = c.args.source.now.netlist.now in
+    let p = c.args.source.now.plan.now in
+    let rows = c.visits.instances.items in
+    let made = c.visits.made in
+    let levels = c.visits.sight.levels.items in
+    let mark = c.visits.mark in
+    let above = c.visits.above.items in
+    let s = c.visits.invariant.state in
+    let inside : mark.next < length mark.cell.now.items = omega (arith, c.len.ensures, c.if-mark-len.false) in
+    let item = c.get-item.result.now in
+    let x = c.visits.sight.indexes in
+    let lists = c.args.source.now.lists.now.cells.items in
+    let listed = c.visits.invariant.sees.listed in
+    let back : mark.next + 1 - 1 ≡ mark.next = omega arith in
+    omega (arith, items_listed n p rows made levels mark above s x lists listed c.index-lists.result.now c.index-lists.ensures, inside)
+
+pub enter-requires-in-Inst-Inst-clause-level : goal.enter-requires-in-Inst-Inst-clause-level
+enter-requires-in-Inst-Inst-clause-level c =
+    let n = c.args.source.now.netlist.now in
+    let p = c.args.source.now.plan.now in
+    let rows = c.visits.instances.items in
+    let made = c.visits.made in
+    let levels = c.visits.sight.levels.items in
+    let mark = c.visits.mark in
+    let above = c.visits.above.items in
+    let s = c.visits.invariant.state in
+    let inside : mark.next < length mark.cell.now.items = omega (arith, c.len.ensures, c.if-mark-len.false) in
+    let item = c.get-item.result.now in
+    let k = c.index-plans.result.now in
+    let i = c.index.result.now in
+    let back : mark.next + 1 - 1 ≡ mark.next = omega arith in
+    let at : i ≡ get_or k.items.items mark.next i = c.index.ensures ∙ ap (λ j. get_or k.items.items j i) back in
+    let planned : IsItemPlan n p.cards item i = item_planned n p rows made levels mark above s c.requires.plan k item i c.index-plans.ensures inside c.get-item.ensures at in
+    let inst : IsInstPlan n p.cards c.in-Inst-Inst.card c.in-Inst-Inst.number c.in-Inst-Inst.plan = subst (λ it. IsItemPlan n p.cards it (plans.Inst c.in-Inst-Inst.number c.in-Inst-Inst.plan)) c.in-Inst-Inst.is-0 (subst (IsItemPlan n p.cards item) c.in-Inst-Inst.is-1 planned) in
+    used_cell n c.visits.sight.netlist.now p c.in-Inst-Inst.card c.in-Inst-Inst.number c.in-Inst-Inst.plan c.cell_of-cell.result.now c.visits.invariant.sees.same inst c.cell_of-cell.ensures
+
+pub enter-requires-in-Inst-Inst-clause-card : goal.enter-requires-in-Inst-Inst-clause-card
+enter-requires-in-Inst-Inst-clause-card c =
+    let n = c.args.source.now.netlist.now in
+    let p = c.args.source.now.plan.now in
+    let rows = c.visits.instances.items in
+    let made = c.visits.made in
+    let levels = c.visits.sight.levels.items in
+    let mark = c.visits.mark in
+    let above = c.visits.above.items in
+    let s = c.visits.invariant.state in
+    let inside : mark.next < length mark.cell.now.items = omega (arith, c.len.ensures, c.if-mark-len.false) in
+    let item = c.get-item.result.now in
+    let x = c.visits.sight.indexes in
+    let lists = c.args.source.now.lists.now.cells.items in
+    let listed = c.visits.invariant.sees.listed in
+    let back : mark.next + 1 - 1 ≡ mark.next = omega arith in
+    card_listed n p rows made levels mark above s x lists listed c.index-lists.result.now item c.in-Inst-Inst.card c.index-in-Inst-Inst.result.now c.index-in-Inst-Inst.result.now c.index-lists.ensures inside c.get-item.ensures
+    (c.index-in-Inst-Inst.ensures ∙ ap (λ j. get_or c.index-lists.result.now.items.items j c.index-in-Inst-Inst.result.now) back) c.in-Inst-Inst.is-0
+
+pub enter-requires-in-Inst-Inst-clause-cell : goal.enter-requires-in-Inst-Inst-clause-cell
+enter-requires-in-Inst-Inst-clause-cell c =
+    let n = c.args.source.now.netlist.now in
+    let p = c.args.source.now.plan.now in
+    let rows = c.visits.instances.items in
+    let made = c.visits.made in
+    let levels = c.visits.sight.levels.items in
+    let mark = c.visits.mark in
+    let above = c.visits.above.items in
+    let s = c.visits.invariant.state in
+    let inside : mark.next < length mark.cell.now.items = omega (arith, c.len.ensures, c.if-mark-len.false) in
+    let item = c.get-item.result.now in
+    let k = c.index-plans.result.now in
+    let i = c.index.result.now in
+    let back : mark.next + 1 - 1 ≡ mark.next = omega arith in
+    let at : i ≡ get_or k.items.items mark.next i = c.index.ensures ∙ ap (λ j. get_or k.items.items j i) back in
+    let planned : IsItemPlan n p.cards item i = item_planned n p rows made levels mark above s c.requires.plan k item i c.index-plans.ensures inside c.get-item.ensures at in
+    let inst : IsInstPlan n p.cards c.in-Inst-Inst.card c.in-Inst-Inst.number c.in-Inst-Inst.plan = subst (λ it. IsItemPlan n p.cards it (plans.Inst c.in-Inst-Inst.number c.in-Inst-Inst.plan)) c.in-Inst-Inst.is-0 (subst (IsItemPlan n p.cards item) c.in-Inst-Inst.is-1 planned) in
+    used_listed n c.visits.sight.indexes c.args.source.now.lists.now.cells.items c.visits.invariant.sees.listed c.in-Inst-Inst.plan inst.known c.cell_of-cell.result.now c.index-used.result.now c.cell_of-cell.ensures c.index-used.ensures

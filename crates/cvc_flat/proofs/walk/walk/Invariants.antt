@@ -1,9 +1,13 @@
 use Rattle.std.proofs.Common.{◌+◌, ◌*◌, ◌-◌, length}
+use Rattle.cvc_flat.proofs.Seen.{Sees}
 use Rattle.cvc_flat.proofs.States.{IsState}
 use Rattle.cvc_flat.proofs.walk.walk.Given as goal
 
 abbrev pub invariant-visits : goal.invariant-visits
-invariant-visits l = IsState l.source.netlist.now l.source.plan.now l.instances.items l.made l.levels.items l.mark l.above.items
+invariant-visits l = record {
+  state : IsState l.source.netlist.now l.source.plan.now l.instances.items l.made l.sight.levels.items l.mark l.above.items;
+  sees : Sees l.source.netlist.now l.source.lists.now.cells.items l.sight;
+}
 
 abbrev pub decreases-visits : goal.decreases-visits
 decreases-visits l = 2 * (1500000 - (length l.instances.items + length l.made.devices.items)) + length l.above.items

@@ -1,0 +1,38 @@
+-- Which files of a run are due, in the order in which it reads them: the first, and each further one where none before it is refused. Where the shelf
+-- doesn't tell its files, each of their names is due. Only a failure on the name of a due file is a cause of a read fault.
+use Rattle.std.specs.Prelude.{◌≡◌, ℕ, List, [], ◌∷◌, Option, Some, None, Bool, true, Result, is_ok, ◌⊎◌}
+use Rattle.cvc_base.specs.declared.fault.Fault.{Fault}
+use Rattle.cvc_io.specs.Causes.{Rose}
+use Rattle.cvc_io.specs.Files.{Files, Counts, content}
+use Rattle.cvc_model.specs.Models.{models_of}
+use Rattle.cvc_power.specs.Power.{power_of}
+use Rattle.cvc_run.specs.Said.{flat_of_file}
+use Rattle.cvc_words.specs.declared.command.Job.{Job}
+
+-- a file of a run: its name, and whether it is accepted, as far as the files are told
+pub record Reading : Type 0 where
+  pub name : List ℕ
+  pub accepted : Bool
+
+abbrev pub is_accepted : {A : Type 0} → (List ℕ → Result A Fault) → Option Files → List ℕ → Bool
+is_accepted said None name = true
+is_accepted said (Some fs) name = is_ok (said (content fs name))
+
+abbrev pub reading : {A : Type 0} → (List ℕ → Result A Fault) → Option Files → List ℕ → Reading
+reading said files name = record { name = name; accepted = is_accepted said files name }
+
+abbrev pub IsDue : List Reading → List ℕ → Type 0
+IsDue [] name = ⊥
+IsDue (r ∷ later) name = (name ≡ r.name) ⊎ ((r.accepted ≡ true) × IsDue later name)
+
+-- the netlist and the models
+abbrev pub design_readings : Option Files → Option (List ℕ) → List ℕ → List ℕ → List Reading
+design_readings files top netlist models = reading (flat_of_file top) files netlist ∷ reading models_of files models ∷ []
+
+-- the three files of a job
+abbrev pub job_readings : Option Files → Job → List Reading
+job_readings files job = reading (flat_of_file job.top) files job.netlist ∷ reading models_of files job.models ∷ reading power_of files job.power ∷ []
+
+-- the count of a due file rose
+abbrev pub DueFailed : List Reading → Counts → Counts → Type 0
+DueFailed readings before after = (name : List ℕ) × IsDue readings name × Rose (before name) (after name)
