@@ -1,16 +1,14 @@
 -- A text as it is followed from place to place. A chain that comes to a place twice never ends; and one that goes on for more steps than there are
 -- pairs above comes to a place twice. So a text has no last one exactly where a place comes twice.
-use Rattle.std.proofs.Common.{◌≡◌, ℕ, zero, suc, ◌+◌, ◌-◌, ◌≤◌, ◌<◌, ◌==◌, ◌||◌, Bool, true, false, cond, List, [], ◌∷◌, ◌++◌, length, drop, map, refl, sym, ap, subst, ◌∙◌, ◌⊎◌, inl, inr, length-append, append_assoc, arith}
-use Rattle.std.specs.Prelude.{Option, Some, None, is_none, is_some, if◌then◌else◌}
+use Rattle.std.proofs.Common.{◌≡◌, ℕ, zero, suc, ◌+◌, ◌-◌, ◌<◌, ◌==◌, Bool, true, false, cond, List, [], ◌∷◌, ◌++◌, length, drop, refl, sym, ap, subst, ◌∙◌, inl, inr, length-append, append_assoc, arith}
+use Rattle.std.specs.Prelude.{Option, Some, None, is_none, is_some}
 use Rattle.std.specs.List.{list_any}
-use Rattle.std.specs.Option.{option_map, option_map_or, option_or}
+use Rattle.std.specs.Option.{option_map_or, option_or}
 use Rattle.std.specs.Str.{str_to_ascii_lowercase}
 use Rattle.std.proofs.lemmas.Bool.{false≢true, or_cases}
-use Rattle.std.proofs.lemmas.List.{append-nil, drop_at, length-map}
+use Rattle.std.proofs.lemmas.List.{drop_at, length-map}
 use Rattle.std.proofs.lemmas.Option.{none-some, same_Some}
 use Rattle.cvc_base.specs.declared.param.Pair.{Pair}
-use Rattle.cvc_base.specs.declared.param.Param.{Param}
-use Rattle.cvc_base.specs.declared.param.Value.{Value}
 use Rattle.cvc_card.specs.declared.card.InstCard.{InstCard}
 use Rattle.cvc_card.specs.Words.{is_number}
 use Rattle.cvc_cdl.specs.declared.netlist.Netlist.{Netlist}

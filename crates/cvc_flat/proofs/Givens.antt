@@ -1,5 +1,5 @@
 -- The last pair of a name in a list of pairs, and the places of a list's names.
-use Rattle.std.proofs.Common.{◌≡◌, ℕ, Bool, true, false, cond, List, [], ◌∷◌, ◌++◌, map, refl, sym, ap, subst, ◌∙◌, ◌⊎◌, inl, inr}
+use Rattle.std.proofs.Common.{◌≡◌, ℕ, Bool, true, false, cond, List, [], ◌∷◌, ◌++◌, map, refl, sym, ap, ◌∙◌, ◌⊎◌, inl, inr}
 use Rattle.std.specs.Prelude.{Option, Some, None, filter, if◌then◌else◌}
 use Rattle.std.specs.Option.{option_map, option_or}
 use Rattle.std.specs.Char.{to_ascii_lowercase}
@@ -8,7 +8,6 @@ use Rattle.std.specs.Cmp.Lexicographic.{bytes_decides}
 use Rattle.std.proofs.lemmas.Option.{none-some, same_Some}
 use Rattle.std.proofs.lemmas.Str.Ascii.{lowercase-lowercase}
 use Rattle.cvc_base.specs.declared.param.Pair.{Pair}
-use Rattle.cvc_card.specs.declared.card.InstCard.{InstCard}
 use Rattle.cvc_card.specs.Parts.{last_of}
 use Rattle.cvc_flat.specs.Instances.{Instance}
 use Rattle.cvc_flat.specs.Params.{Scope, Inside, Use, given_in, on_card}

@@ -1,7 +1,5 @@
 -- Lists of pairs as more are added: each keeps its number.
-use Rattle.std.proofs.Common.{◌≡◌, ℕ, List, refl, ◌∙◌}
-use Rattle.std.specs.List.{AllZip}
-use Rattle.cvc_base.specs.declared.param.Pair.{Pair}
+use Rattle.std.proofs.Common.{ℕ, List, refl, ◌∙◌}
 use Rattle.cvc_cdl.specs.declared.netlist.Cell.{Cell}
 use Rattle.cvc_cdl.specs.declared.netlist.Item.{Item}
 use Rattle.cvc_cdl.specs.declared.netlist.Item.TheVariants as items

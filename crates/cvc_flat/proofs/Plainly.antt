@@ -1,19 +1,17 @@
 -- Values that are numbers as they stand.
-use Rattle.std.proofs.Common.{◌≡◌, ℕ, zero, suc, ◌+◌, ◌<◌, ◌&&◌, Bool, true, false, List, [], ◌∷◌, ◌++◌, length, take, get_or, refl, sym, ap, ◌∙◌, arith}
+use Rattle.std.proofs.Common.{◌≡◌, ℕ, zero, suc, ◌+◌, ◌<◌, true, false, List, [], ◌∷◌, ◌++◌, length, take, get_or, refl, sym, ap, ◌∙◌, arith}
 use Rattle.std.specs.Prelude.{Option, Some, None, is_none}
 use Rattle.std.proofs.lemmas.Bool.{and_parts}
-use Rattle.std.proofs.lemmas.List.{take_all}
 use Rattle.std.proofs.lemmas.Option.{none-some}
 use Rattle.cvc_base.specs.declared.param.Pair.{Pair}
 use Rattle.cvc_base.specs.declared.param.Param.{Param}
-use Rattle.cvc_card.specs.Words.{is_number}
 use Rattle.cvc_cdl.specs.declared.netlist.Netlist.{Netlist}
 use Rattle.cvc_flat.specs.Instances.{Instance}
-use Rattle.cvc_flat.specs.Params.{Inside, Use, and_all, next, pairs_above, param_in, params_in, value_of_text}
+use Rattle.cvc_flat.specs.Params.{Inside, Use, and_all, pairs_above, param_in, params_in, value_of_text}
 use Rattle.cvc_flat.specs.Places.{has_loop}
 use Rattle.cvc_flat.specs.Plain.{are_plain, has_number}
 use Rattle.cvc_flat.proofs.Chains.{last_here}
-use Rattle.cvc_flat.proofs.Listing.{param_found, params_first, params_more}
+use Rattle.cvc_flat.proofs.Listing.{param_found, params_more}
 use Rattle.cvc_flat.proofs.Loops.{params_none}
 use Rattle.cvc_flat.proofs.Sighting.{next_number}
 

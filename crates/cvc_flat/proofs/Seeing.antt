@@ -1,5 +1,5 @@
 -- The lists that a level's numbers stand for.
-use Rattle.std.proofs.Common.{◌≡◌, ℕ, ◌-◌, ◌<◌, ◌≤◌, List, length, get_or, sym, subst, arith}
+use Rattle.std.proofs.Common.{◌≡◌, ℕ, ◌-◌, ◌≤◌, List, length, get_or, sym, subst, arith}
 use Rattle.cvc_base.specs.declared.param.Pair.{Pair}
 use Rattle.cvc_flat.specs.declared.level.Level.{Level}
 use Rattle.cvc_flat.specs.declared.pair_index.PairIndex.{PairIndex}

@@ -1,5 +1,5 @@
 -- What the instance that a walk is in sees: the lists of pairs on the way to it.
-use Rattle.std.proofs.Common.{◌≡◌, ℕ, ◌+◌, ◌-◌, ◌<◌, ◌≤◌, List, [], ◌∷◌, ◌++◌, length, get_or, take, sym, ap, subst, ◌∙◌, length-append, arith}
+use Rattle.std.proofs.Common.{◌≡◌, ℕ, ◌<◌, List, [], ◌∷◌, ◌++◌, length, get_or, sym, ap, subst, ◌∙◌, length-append, arith}
 use Rattle.std.proofs.lemmas.List.{get_or_append_left}
 use Rattle.cvc_card.specs.declared.card.InstCard.{InstCard}
 use Rattle.cvc_cdl.specs.declared.netlist.Cell.{Cell}

@@ -1,20 +1,18 @@
 -- What an instance sees: the ways to the levels, and names in lower case.
-use Rattle.std.proofs.Common.{◌≡◌, ℕ, suc, ◌+◌, ◌<◌, ◌≤◌, Bool, true, false, cond, List, [], ◌∷◌, ◌++◌, length, map, take, get_or, refl, sym, ap, subst, ◌∙◌, arith}
-use Rattle.std.specs.Prelude.{Option, Some, None, reverse, slice_get, slice_index_or}
-use Rattle.std.specs.Option.{option_map, option_and_then, option_or}
-use Rattle.std.specs.Str.{bytes_eq, str_to_ascii_lowercase}
+use Rattle.std.proofs.Common.{◌≡◌, ℕ, ◌+◌, ◌<◌, Bool, true, false, cond, List, [], ◌∷◌, length, map, take, get_or, refl, sym, ap, ◌∙◌, arith}
+use Rattle.std.specs.Prelude.{Option, Some, None, reverse}
+use Rattle.std.specs.Option.{option_map, option_or}
+use Rattle.std.specs.Str.{str_to_ascii_lowercase}
 use Rattle.std.proofs.lemmas.List.{map_more, reverse-append, take_all}
 use Rattle.cvc_base.specs.declared.param.Pair.{Pair}
-use Rattle.cvc_card.specs.declared.card.InstCard.{InstCard}
-use Rattle.cvc_card.specs.Parts.{last_of}
 use Rattle.cvc_card.specs.Words.{is_number}
 use Rattle.cvc_cdl.specs.declared.netlist.Cell.{Cell}
 use Rattle.cvc_cdl.specs.declared.netlist.Netlist.{Netlist}
 use Rattle.cvc_flat.specs.declared.level.Level.{Level}
-use Rattle.cvc_flat.specs.Instances.{Instance, cell_at, cell_for}
+use Rattle.cvc_flat.specs.Instances.{cell_at}
 use Rattle.cvc_flat.specs.Levels.{AreLevels, card_of, instance_of}
 use Rattle.cvc_flat.specs.PairIndexes.{last_low, value_of_pair}
-use Rattle.cvc_flat.specs.Params.{Scope, Inside, Main, Use, given_in, next, on_card, pairs_above, seen_from}
+use Rattle.cvc_flat.specs.Params.{Scope, Inside, Main, Use, given_in, next, pairs_above, seen_from}
 use Rattle.cvc_flat.specs.Sights.{way_to}
 use Rattle.cvc_flat.proofs.Givens.{card_lower, given_lower}
 

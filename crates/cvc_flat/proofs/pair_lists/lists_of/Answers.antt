@@ -1,6 +1,6 @@
-use Rattle.std.proofs.Common.{[], ◌∷◌, ◌++◌, ◌∙◌, take, sym, subst, arith}
+use Rattle.std.proofs.Common.{[], ◌∙◌, take, sym, subst, arith}
 use Rattle.std.proofs.lemmas.List.{take_all}
-use Rattle.cvc_flat.specs.PairLists.{AreListed, IsCellListed, ListsMore}
+use Rattle.cvc_flat.specs.PairLists.{AreListed, IsCellListed}
 use Rattle.cvc_flat.specs.Planning.{all_cells}
 use Rattle.cvc_flat.proofs.Listed.{cells_stay, more_none, more_twice}
 use Rattle.cvc_flat.proofs.Planned.{zip_more, zip_push}

@@ -1,5 +1,4 @@
-use Rattle.std.proofs.Common.{[], take}
-use Rattle.cvc_flat.specs.PairIndexes.{IsListed}
+use Rattle.std.proofs.Common.{take}
 use Rattle.cvc_flat.specs.PairLists.{AreListed, ListsMore}
 use Rattle.cvc_flat.proofs.pair_lists.lists_of.Given as goal
 

@@ -49,3 +49,8 @@ walk-requires-clause-outside c = c.in_ok-lists.ensures.more.levels ∙ c.in_ok-s
 
 pub walk-requires-clause-lists : goal.walk-requires-clause-lists
 walk-requires-clause-lists c = c.in_ok-lists.ensures.listed
+
+pub returns-in_err-lists-clause-fault : goal.returns-in_err-lists-clause-fault
+returns-in_err-lists-clause-fault c =
+    let w = err_from_is_err_and c.from_residual-in_err-lists.result c.from_residual-in_err-lists.ensures.1 in
+    rw (w.1, w.2) tt

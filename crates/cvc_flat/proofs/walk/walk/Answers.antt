@@ -1,6 +1,6 @@
-use Rattle.std.proofs.Common.{◌≡◌, ℕ, ◌+◌, ◌-◌, ◌<◌, ◌≤◌, ◌∷◌, ◌++◌, [], List, length, take, vec_len, get_or, refl, sym, ap, subst, ◌∙◌, arith}
+use Rattle.std.proofs.Common.{◌≡◌, ℕ, ◌+◌, ◌-◌, ◌<◌, length, get_or, refl, sym, ap, subst, ◌∙◌, arith}
 use Rattle.std.proofs.lemmas.Result.{err_from_is_err_and}
-use Rattle.std.specs.Prelude.{Err, None}
+use Rattle.std.specs.Prelude.{Err}
 use Rattle.std.specs.Option.{option_map}
 use Rattle.cvc_base.specs.Answers.{Refuses}
 use Rattle.cvc_cdl.specs.declared.netlist.Item.TheVariants as items
@@ -11,7 +11,6 @@ use Rattle.cvc_flat.specs.declared.walk.Walked.{Walked}
 use Rattle.cvc_flat.specs.Flat.{limits}
 use Rattle.cvc_flat.specs.Levels.{instance_of}
 use Rattle.cvc_flat.specs.Making.{device_cause_in, instance_cause_in, known_nets}
-use Rattle.cvc_flat.specs.Nets.{path_of as path_in}
 use Rattle.cvc_flat.specs.Planning.{IsInstPlan, IsItemPlan}
 use Rattle.cvc_flat.specs.Tables.{path_of, way_at, ways_of}
 use Rattle.cvc_flat.proofs.States.{added_same, cause_same, fault_device, fault_instance, here, item_formed, item_planned, items_planned, path_here, plan_inside, same_item, state_begins, state_device, state_done, state_entered, state_pops}

@@ -1,9 +1,9 @@
-use Rattle.std.proofs.Common.{◌≡◌, ℕ, List, length, sym, ap, ◌∙◌, arith, Bor}
+use Rattle.std.proofs.Common.{◌≡◌, ℕ, List, sym, ap, ◌∙◌, arith, Bor}
 use Rattle.std.specs.Option.{option_map}
 use Rattle.cvc_base.specs.declared.param.Param.{Param}
 use Rattle.cvc_flat.specs.Levels.{instance_of}
 use Rattle.cvc_flat.specs.Params.{Inside, Use, value_of_text}
-use Rattle.cvc_flat.specs.Sights.{use_in, way_to}
+use Rattle.cvc_flat.specs.Sights.{way_to}
 use Rattle.cvc_flat.proofs.Listing.{param_found, param_lost}
 use Rattle.cvc_flat.proofs.Sighting.{way_all}
 use Rattle.cvc_flat.proofs.params.Sight.param.Goals as goal
