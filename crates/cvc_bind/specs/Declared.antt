@@ -1,6 +1,6 @@
 -- What the nets of a circuit are declared at. Each power row, in order, declares the net that its name finds. A row whose name finds no net is a fault, and
 -- so is one that finds the net of an earlier row, whatever the two names are; it stands at the row's line of the power file.
-use Rattle.std.specs.Prelude.{◌≡◌, ℕ, ◌≤ℤ◌, Bool, true, false, ◌==◌, List, [], ◌∷◌, ◌++◌, length, map, Option, Some, None, Result, Ok, Err, slice_get, slice_index_or, if◌then◌else◌}
+use Rattle.std.specs.Prelude.{◌≡◌, ℕ, ◌≤ℤ◌, Bool, false, ◌==◌, List, [], ◌∷◌, ◌++◌, length, map, Option, Some, None, Result, Ok, Err, slice_index_or, if◌then◌else◌}
 use Rattle.std.specs.List.{list_any, range_with_len}
 use Rattle.cvc_base.specs.declared.cause.Cause.{Cause}
 use Rattle.cvc_base.specs.declared.cause.Cause.TheVariants.{UnknownNet, SameNetTwice}
@@ -50,11 +50,6 @@ unless_fault None x = Ok x
 abbrev pub fixed_of : FlatList → List PowerRow → Result (List (Option Fixed)) Fault
 fixed_of f rows = unless_fault (rows_fault f [] rows) (map (declared f rows) (range_with_len 0 (length f.nets)))
 
--- ## What is asked of the rows, and what follows
-
--- no low lies above its high
-abbrev pub AreSpans : List PowerRow → Type 0
-AreSpans rows = (place : ℕ) (row : PowerRow) → slice_get rows place ≡ Some row → row.low ≤ℤ row.high
-
+-- no declared low lies above its high
 abbrev pub AreOrdered : List (Option Fixed) → Type 0
 AreOrdered fixed = (n : ℕ) (w : Fixed) → slice_index_or fixed n None ≡ Some w → w.low ≤ℤ w.high

@@ -1,5 +1,5 @@
--- The devices of a circuit. Each device of the flat list takes the kind and the voltages of the row that is chosen for it, if that kind fits its letter.
--- The first device that can't is the fault, at the line of its card.
+-- The devices of a circuit. Each device of the flat list keeps its pins and takes the kind and the voltages of the row that is chosen for it, if that kind
+-- fits its letter. The first device that can't is the fault, at the line of its card in the netlist.
 use Rattle.std.specs.Prelude.{ℕ, Bool, true, false, List, map, Option, Some, None, Result, Ok, Err, slice_get, if◌then◌else◌}
 use Rattle.cvc_base.specs.declared.cause.Cause.{Cause}
 use Rattle.cvc_base.specs.declared.cause.Cause.TheVariants.{NoModel, ParamText, WrongKind}
@@ -42,9 +42,13 @@ abbrev pub at_card : ℕ → Result Device Cause → Result Device Fault
 at_card line (Ok d) = Ok d
 at_card line (Err cause) = Err (fault_on Netlist line cause)
 
+-- the choice among the rows by the device's model and parameters
+abbrev pub device_choice : List ModelRow → FlatDevice → Choice
+device_choice rows d = choice_of rows d.model d.params
+
 -- the device of the circuit, or its fault
 unfoldable pub device_of : List ModelRow → FlatDevice → Result Device Fault
-device_of rows d = at_card d.line (with_choice rows d (choice_of rows d.model d.params))
+device_of rows d = at_card d.line (with_choice rows d (device_choice rows d))
 
 -- all devices, or the first fault among them
 abbrev pub devices_of : FlatList → List ModelRow → Result (List Device) Fault

@@ -4,5 +4,7 @@
 #![tactic(auto)]
 
 mod binding;
+mod declared;
+mod devices;
 
 pub use binding::bind;

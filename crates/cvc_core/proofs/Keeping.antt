@@ -7,7 +7,7 @@ use mathlib.Core.Logic.{dite}
 use native.Mathlib.Decide.{ℕ_discrete}
 use Rattle.cvc_law.specs.Network.{Network, devices, is_declared, fan_of}
 use Rattle.cvc_law.specs.Conduction.{target}
-use Rattle.cvc_law.specs.Reach.{widest, device_at, read_place, target_place, needs, gives, reach_reads}
+use Rattle.cvc_law.specs.Reach.{widest, device_at, read_place, target_place, needs, reach_given, reach_reads}
 use Rattle.cvc_law.specs.ReachLeast.{IsReachClosedAt, IsReachWithin}
 use Rattle.cvc_law.proofs.ReachGiving.{gives_needed}
 use Rattle.cvc_law.proofs.ReachFans.{fan_within}
@@ -58,8 +58,8 @@ due c r debt d is owed = let t : IsOwedBy c (Some debt) d = subst (λ (o : Optio
     inr (subst (λ (b : Bool). IsOwedBy c (cond b (Some record { net = debt.net; place = debt.place + 1 }) None) d) (sym test) (j, omega arith, lt, t.3)))
 
 -- a device whose slots are settled on fresh reads is closed at
-settled_covers : (c : Network) (r : Run) (j : ℕ) (f : List ℕ) → gives c (device_of c r) j (reach_reads f (device_of c r)) ≡ offer c r j → is_declared c (target (device_of c r) j) ≡ false
-    → (given_at r j ≡ true → offer c r j ≤ slice_index f (target_place (device_of c r) j)) → IsSettled c r j → gives c (device_of c r) j (reach_reads f (device_of c r)) ≤ slice_index f (target_place (device_of c r) j)
+settled_covers : (c : Network) (r : Run) (j : ℕ) (f : List ℕ) → reach_given c (device_of c r) j (reach_reads f (device_of c r)) ≡ offer c r j → is_declared c (target (device_of c r) j) ≡ false
+    → (given_at r j ≡ true → offer c r j ≤ slice_index f (target_place (device_of c r) j)) → IsSettled c r j → reach_given c (device_of c r) j (reach_reads f (device_of c r)) ≤ slice_index f (target_place (device_of c r) j)
 settled_covers c r j f same free covered settled = ⊎_elim (λ (g : given_at r j ≡ true). let h = covered g in omega arith)
     (λ (z : (offer c r j ≡ 0) ⊎ (is_declared c (target (device_of c r) j) ≡ true)). ⊎_elim (λ (n : offer c r j ≡ 0). omega arith) (λ (d : is_declared c (target (device_of c r) j) ≡ true). cc) z) settled
 
@@ -219,7 +219,7 @@ module _ (c : Network) (s : Machine) (k : ℕ) (ok : Sound c s) (here : k < leng
       let stays : (i : ℕ) → IsQueuedOrOwed c s i → IsQueuedOrOwed c t i = λ i. noted c s k ok here (Running r) a' e s.bounds ms s.count i
       (λ h. inl (set_each (λ n z. slice_index s.marks n % 2 ≡ 1 → z % 2 ≡ 1) s.marks d m 0 within (λ g. omega arith) (λ n ne g. g) i h)) (λ o. absurd (owed_at c r.owes i none o)) in
       let closed : IsFresh c s.bounds r → IsReachClosedAt c s.bounds (device_at c d) = λ fr j lt free.
-      let same : gives c (device_of c r) j (reach_reads s.bounds (device_of c r)) ≡ offer c r j = gives_needed c (device_of c r) j (reach_reads s.bounds (device_of c r)) (held r) lt
+      let same : reach_given c (device_of c r) j (reach_reads s.bounds (device_of c r)) ≡ offer c r j = gives_needed c (device_of c r) j (reach_reads s.bounds (device_of c r)) (held r) lt
       (λ i need. let p = known (read_at r i) (full i need) in sym (ap or_nothing p.1 ∙ fr i p.0 p.1)) in
       settled_covers c r j s.bounds same free (old.covered j) (settled j lt) in
       let gone : (l i : ℕ) → i ≢ d → Runs (actor_at s l) i → Runs (actor_at t l) i = λ l i ne. runs_there c s k ok here (Running r) a' e s.bounds ms s.count l i (λ z. absurd (ne (sym z))) in

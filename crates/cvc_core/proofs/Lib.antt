@@ -4,6 +4,7 @@ pub mod Keeping
 pub mod Widening
 pub mod EachStep
 pub mod Quiet
+pub mod InMillivolts
 pub mod Moving
 pub mod Starting
 pub mod Offering

@@ -6,7 +6,7 @@ use mathlib.Core.Logic.{dite}
 use native.Mathlib.Decide.{dec_lt}
 use Rattle.cvc_law.specs.Network.{Network, devices, is_declared, touches}
 use Rattle.cvc_law.specs.Conduction.{target}
-use Rattle.cvc_law.specs.Reach.{widest, device_at, read_place, target_place, needs, gives, reach_reads}
+use Rattle.cvc_law.specs.Reach.{widest, device_at, read_place, target_place, needs, reach_given, reach_reads}
 use Rattle.cvc_law.specs.ReachLeast.{IsReachFamily, IsReachClosedAt, IsReachWithin}
 use Rattle.cvc_law.proofs.ReachGiving.{gives-le, gives_in_range, gives_needed}
 use Rattle.cvc_law.proofs.ReachFans.{fan_has, touches_given}
@@ -69,8 +69,8 @@ module _ (c : Network) (s : Machine) (k : ℕ) (ok : Sound c s) (here : k < leng
   least : IsWithinClosed c f
   least g is closed = set_within s.bounds b (max x y) g inside (ok.within g is closed)
       (let fit = fits_at c s k r ok e in let old = ok.within g is closed b in
-      let wider : y ≤ gives c (device_of c r) j (reach_reads g (device_of c r)) = gives-le c (device_of c r) j (held r) (reach_reads g (device_of c r)) (λ i. le_trans (fit.within i) (ok.within g is closed (read_place (device_of c r) i))) in
-      let covered : gives c (device_of c r) j (reach_reads g (device_of c r)) ≤ slice_index g b = closed d fit.run.device j lt free in omega arith)
+      let wider : y ≤ reach_given c (device_of c r) j (reach_reads g (device_of c r)) = gives-le c (device_of c r) j (held r) (reach_reads g (device_of c r)) (λ i. le_trans (fit.within i) (ok.within g is closed (read_place (device_of c r) i))) in
+      let covered : reach_given c (device_of c r) j (reach_reads g (device_of c r)) ≤ slice_index g b = closed d fit.run.device j lt free in omega arith)
 
   -- ---- the new debt
   slots : j < length r.given
@@ -109,7 +109,7 @@ module _ (c : Network) (s : Machine) (k : ℕ) (ok : Sound c s) (here : k < leng
   closed_still : (i : ℕ) → i < devices c → IsReachClosedAt c s.bounds (device_at c i) → IsQueuedOrOwed c t i ⊎ IsReachClosedAt c f (device_at c i)
   closed_still i small closed = ⊎_elim inl (λ (same : ReadsStay i). inr (λ q lt' free'.
       let before = closed q lt' free' in let wider = more (target_place (device_at c i) q) in
-      let gives-same : gives c (device_at c i) q (reach_reads f (device_at c i)) ≡ gives c (device_at c i) q (reach_reads s.bounds (device_at c i)) = gives_needed c (device_at c i) q (reach_reads f (device_at c i)) (reach_reads s.bounds (device_at c i)) lt' same in omega arith)) (either i small)
+      let gives-same : reach_given c (device_at c i) q (reach_reads f (device_at c i)) ≡ reach_given c (device_at c i) q (reach_reads s.bounds (device_at c i)) = gives_needed c (device_at c i) q (reach_reads f (device_at c i)) (reach_reads s.bounds (device_at c i)) lt' same in omega arith)) (either i small)
 
   fresh_still : (q : Run) → IsRunOf c q → IsFresh c s.bounds q → IsQueuedOrOwed c t q.device.0 ⊎ IsFresh c f q
   fresh_still q run fresh = ⊎_elim inl (λ (same : ReadsStay q.device.0). inr (λ i v h. fresh i v h ∙ sym (same i (run.only_needed i v h)))) (either q.device.0 run.device)

@@ -4,7 +4,7 @@
 use Rattle.std.specs.Prelude.{◌≡◌, ℕ, List, [], Option, Some, None, Bool, false, slice_index, slice_index_or, slice_set}
 use Rattle.cvc_law.specs.declared.device.Device.{Device}
 use Rattle.cvc_law.specs.Network.{Network, fan_of}
-use Rattle.cvc_law.specs.Reach.{device_at, gives}
+use Rattle.cvc_law.specs.Reach.{device_at, reach_given}
 use Rattle.cvc_core.specs.declared.actor.Debt.{Debt}
 use Rattle.cvc_core.specs.declared.actor.Run.{Run}
 use Rattle.cvc_core.specs.declared.actor.Actor.{Actor}
@@ -74,7 +74,7 @@ given_at r k = slice_index_or r.given k false
 
 -- what a slot gives on the loaded reads
 abbrev pub offer : Network → Run → ℕ → ℕ
-offer c r k = gives c (device_of c r) k (held r)
+offer c r k = reach_given c (device_of c r) k (held r)
 
 abbrev pub no_debt : Debt
 no_debt = record { net = record { 0 = 0 }; place = 0 }

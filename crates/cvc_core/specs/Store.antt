@@ -1,9 +1,9 @@
 -- The machine that a store keeps, and what of a run is known to be sound by itself.
-use Rattle.std.specs.Prelude.{ℕ, ◌+◌, ◌*◌, ◌≤◌, false, map, if◌then◌else◌}
+use Rattle.std.specs.Prelude.{ℕ, ◌+◌, ◌≤◌, false, map, if◌then◌else◌}
 use Rattle.cvc_law.specs.declared.interval.Interval.{Interval}
 use Rattle.cvc_law.specs.declared.interval.Reads.{Reads}
 use Rattle.cvc_law.specs.Network.{Network, IsCircuit}
-use Rattle.cvc_law.specs.Reach.{widest, bound_of}
+use Rattle.cvc_law.specs.Reach.{widest, interval_of_reaches, reads_of_reaches}
 use Rattle.cvc_core.specs.declared.actor.Run.{Run}
 use Rattle.cvc_core.specs.declared.store.Mark.{Mark}
 use Rattle.cvc_core.specs.declared.store.Store.{Store}
@@ -27,7 +27,7 @@ pub record IsReady (c : Network) (r : Run) : Type 0 where
 
 -- what a run holds of the net at an end of its device: 0 is a, 1 is b, 2 the gate
 abbrev pub held_interval : Network → Run → ℕ → Interval
-held_interval c r p = record { low = bound_of c 0 (held r (2 * p)); high = bound_of c 1 (held r (2 * p + 1)) }
+held_interval c r p = interval_of_reaches c (held r) p
 
 abbrev pub held_reads : Network → Run → Reads
-held_reads c r = record { a = held_interval c r 0; b = held_interval c r 1; g = held_interval c r 2 }
+held_reads c r = reads_of_reaches c (held r)

@@ -1,14 +1,18 @@
 //! Laws of the machine. Each is the contract of a function that does nothing.
 ghost use Rattle.std.specs.Prelude.{◌≡◌, ◌≢◌, ℕ, ◌+◌, ◌*◌, ◌<◌, ◌≤◌, List, length, slice_index, false};
 ghost use Rattle.cvc_base.specs.declared.ids.DevId.{DevId};
-ghost use Rattle.cvc_law.specs.Network.{Network, devices, IsCircuit};
-ghost use Rattle.cvc_law.specs.Least.{IsLeast};
-ghost use Rattle.cvc_law.specs.Reach.{declared_reach, is_declared_bound};
+ghost use Rattle.cvc_base.specs.declared.ids.Side.TheVariants.{Low, High};
+ghost use Rattle.cvc_law.specs.Network.{Network, nets, devices, IsCircuit};
+ghost use Rattle.cvc_law.specs.declared.interval.Interval.{Interval};
+ghost use Rattle.cvc_law.specs.Family.{interval_at, IsFamily, IsWithin};
+ghost use Rattle.cvc_law.specs.Least.{IsClosed, IsLeast};
+ghost use Rattle.cvc_law.specs.Reach.{widest, declared_reach, is_declared_bound};
 ghost use Rattle.cvc_law.specs.ReachLeast.{intervals, IsReachLeast, IsReachWithin};
 ghost use Rattle.cvc_core.specs.declared.actor.Actor.{Actor};
 ghost use Rattle.cvc_core.specs.declared.actor.Intent.{Intent};
 ghost use Rattle.cvc_core.specs.declared.event.Event.{Event};
-ghost use Rattle.cvc_core.specs.State.{Machine, Place, BoundWord, MarkWord, actor_at, put_actor, found, put, credits_of};
+ghost use Rattle.cvc_core.specs.State.{Machine, Place, BoundWord, MarkWord, actor_at, put_actor, found, put, credits_of, held, IfRunning};
+ghost use Rattle.cvc_core.specs.Measured.{Measured, IsSoundOn, bound_at};
 ghost use Rattle.cvc_core.specs.Steps.{place_of, IsAllowed, step_by};
 ghost use Rattle.cvc_core.specs.Events.{IsEnabled, after, AreEnabled, after_all};
 ghost use Rattle.cvc_core.specs.Start.{start};
@@ -57,6 +61,24 @@ pub fn a_quiet_state_is_the_least_family()
     ensures intervals { (c : Network) (s : Machine) → Sound c s → s.count ≡ 0 → IsLeast c (intervals c s.bounds) }
     ensures steps_stay { (c : Network) (s : Machine) (k : ℕ) (i : Intent) (a : Actor) → Sound c s → s.count ≡ 0 → actor_at s k ≡ a → IsAllowed c i a (found s (place_of c i a)) → ((step_by c s k i a).bounds ≡ s.bounds) × ((step_by c s k i a).marks ≡ s.marks) × ((step_by c s k i a).count ≡ 0) }
     ensures stays { (c : Network) (s : Machine) (e : Event) → Sound c s → s.count ≡ 0 → IsEnabled c s e → ((after c s e).bounds ≡ s.bounds) × ((after c s e).marks ≡ s.marks) × ((after c s e).count ≡ 0) }
+{}
+
+/// The intervals of a sound state are a family of the circuit, within every closed family and so within the least one.
+pub fn a_sound_state_is_within_the_least_family()
+    ensures family { (c : Network) (s : Machine) → Sound c s → IsFamily c (intervals c s.bounds) }
+    ensures closed { (c : Network) (s : Machine) (f : List Interval) → Sound c s → IsFamily c f → IsClosed c f → IsWithin (intervals c s.bounds) f }
+    ensures least { (c : Network) (s : Machine) (f : List Interval) → Sound c s → IsLeast c f → IsWithin (intervals c s.bounds) f }
+{}
+
+/// In a sound state no bound, and no read that a run has loaded, reaches further than the widest.
+pub fn no_reach_is_beyond_the_widest()
+    ensures bounds { (c : Network) (s : Machine) (b : ℕ) → Sound c s → slice_index s.bounds b ≤ widest c }
+    ensures loaded { (c : Network) (s : Machine) (k : ℕ) → Sound c s → IfRunning (actor_at s k) (λ r. (i : ℕ) → held r i ≤ widest c) }
+{}
+
+/// The bounds that `State::bound` answers of a net are those of the intervals that the other laws speak of.
+pub fn the_bounds_of_a_state_are_its_intervals()
+    ensures { (c : Network) (s : Measured) (n : ℕ) → IsSoundOn c s → interval_at (intervals c s.machine.bounds) n ≡ record { low = bound_at s n Low; high = bound_at s n High } }
 {}
 
 /// The count is at least each actor's credits, and at most the number of devices and twice that of the actors.

@@ -2,8 +2,6 @@
 use Rattle.std.proofs.Common.{◌≡◌, ℕ, zero, suc, ◌+◌, ◌*◌, ◌/◌, ◌%◌, ◌<◌, ◌≤◌, Option, Some, None, true, false, List, [], ◌∷◌, length, slice_index, arith, ap, refl, sym, subst, ◌∙◌}
 use Rattle.std.specs.Prelude.{ℤ}
 use mathlib.Core.Option.{some, some-injective, some-ne-none}
-use mathlib.Core.Logic.{dite}
-use native.Mathlib.Decide.{dec_lt}
 use lib.ListN.{get_elem?}
 use Rattle.atomic_table.specs.Table.{State, Me, Final, Seen}
 use Rattle.cvc_base.specs.declared.ids.Side.{Side}
@@ -13,18 +11,17 @@ use Rattle.cvc_law.specs.Network.{Network, nets, is_declared, floor_of, ceiling_
 use Rattle.cvc_law.specs.Family.{interval_at, IsFamily, IsWithin}
 use Rattle.cvc_law.specs.Least.{IsClosed, IsLeast}
 use Rattle.cvc_law.specs.Reach.{width, bound_on, bound_of, reach_of, low_of, high_of, low_reach, is_declared_bound}
-use Rattle.cvc_law.specs.ReachLeast.{intervals, reaches, IsReachWithin}
+use Rattle.cvc_law.specs.ReachLeast.{intervals}
 use Rattle.cvc_law.specs.ReachWord.{word_of, bound_in}
 use Rattle.cvc_law.proofs.ReachValues.{low_of_reach, high_of_reach}
-use Rattle.cvc_law.proofs.ReachFamilies.{family_reaches, within_from_reaches}
-use Rattle.cvc_law.proofs.ReachAgree.{closed_reaches, reaches_intervals, family_intervals, interval_of}
+use Rattle.cvc_law.proofs.ReachAgree.{interval_of}
 use Rattle.cvc_law.proofs.ReachWords.{bound_in_word}
 use Rattle.cvc_core.specs.State.{BoundWord}
 use Rattle.cvc_core.proofs.Quiet.{quiet-least_intervals}
+use Rattle.cvc_core.proofs.InMillivolts.{sound_family, sound_within}
 use Rattle.cvc_field.specs.declared.view.View.{View}
 use Rattle.cvc_field.specs.Words.{intervals_from, last_intervals, IsStoredWord}
 use Rattle.cvc_field.specs.Trail.{is_quiet, gave}
-use Rattle.cvc_field.specs.Views.{IsBoundWord}
 use Rattle.cvc_field.specs.Field.{ViewFits, IsSoundField}
 use Rattle.cvc_field.specs.Hands.{HandView, idle_view}
 use Rattle.cvc_field.specs.Seats.{side_number, bound_index}
@@ -120,13 +117,10 @@ module _ (c : Network) (hands id : ℕ) (v : View) (ws : List ℕ) (xs : List (U
   last_stored b lt = subst (IsStoredWord (b % 2)) (sym (word_there b lt)) (within_words c (b % 2) (word_of c (b % 2) (slice_index bounds b)) (omega arith) (bound_word c h.machine h.range h.sound b))
 
   pub last_family : IsFamily c (last_intervals (nets c) ws)
-  last_family = subst (IsFamily c) (sym family_is) (family_intervals c h.sound.form.circuit bounds h.sound.in_range.bounds)
+  last_family = subst (IsFamily c) (sym family_is) (sound_family c h.machine h.sound)
 
   pub last_within : (f : List Interval) → IsFamily c f → IsClosed c f → IsWithin (last_intervals (nets c) ws) f
-  last_within f is closed = subst (λ (z : List Interval). IsWithin z f) (sym family_is)
-      (within_from_reaches c (intervals c bounds) f (family_intervals c h.sound.form.circuit bounds h.sound.in_range.bounds)
-      (subst (λ (z : List ℕ). IsReachWithin z (reaches c f)) (sym (reaches_intervals c bounds (nets c) h.sound.in_range.bounds.every_bound h.sound.in_range.bounds.in_range))
-      (h.sound.within (reaches c f) (family_reaches c f is) (closed_reaches c h.sound.form.circuit f is closed))))
+  last_within f is closed = subst (λ (z : List Interval). IsWithin z f) (sym family_is) (sound_within c h.machine f h.sound is closed)
 
   pub last_least : is_quiet v.trail ≡ true → IsLeast c (last_intervals (nets c) ws)
   last_least quiet = subst (IsLeast c) (sym family_is) (quiet-least_intervals c h.machine h.sound (fit.quiet quiet))

@@ -1,6 +1,6 @@
 -- A run that gives by its slots and marks the fans of what it widened.
-use Rattle.std.proofs.Common.{◌≡◌, ◌≢◌, ℕ, zero, suc, ◌+◌, ◌*◌, ◌-◌, ◌%◌, ◌<◌, ◌≤◌, min, max, Bool, true, false, List, [], ◌∷◌, to_z, of_z, w64, Option, None, Some, IsSome, length, map, set, slice_index, slice_index_or, nat_lt, inl, inr, ⊎_elim, arith, ap, refl, sym, subst, ◌∙◌, length-set, get_or-set_same, get_or-set_other, lt-ltb, true≢false}
-use Rattle.std.specs.Prelude.{slice_get, ℤ, pos, neg_ℤ, ◌≤ℤ◌, IfSome, IsSomeAnd, if◌then◌else◌, is_some}
+use Rattle.std.proofs.Common.{◌≡◌, ℕ, zero, suc, ◌+◌, ◌*◌, ◌-◌, ◌%◌, ◌<◌, ◌≤◌, Bool, true, false, List, [], ◌∷◌, to_z, of_z, w64, Option, None, Some, IsSome, length, map, set, slice_index, slice_index_or, nat_lt, inl, inr, ⊎_elim, arith, ap, refl, sym, subst, ◌∙◌, length-set, get_or-set_same, get_or-set_other, lt-ltb}
+use Rattle.std.specs.Prelude.{ℤ, pos, neg_ℤ, ◌≤ℤ◌, IfSome, IsSomeAnd, if◌then◌else◌}
 use Rattle.std.proofs.lemmas.Int.{ints}
 use Rattle.std.proofs.lemmas.Bool.Decides.{nat_tests}
 use mathlib.Core.Logic.{dite}
@@ -8,14 +8,14 @@ use native.Mathlib.Decide.{ℕ_discrete, dec_lt}
 use Rattle.cvc_base.specs.declared.ids.DevId.{DevId}
 use Rattle.cvc_law.specs.declared.device.Device.{Device}
 use Rattle.cvc_law.specs.declared.interval.Reads.{Reads}
-use Rattle.cvc_law.specs.Network.{Network, devices, fan_of, is_declared, floor_of, ceiling_of}
+use Rattle.cvc_law.specs.Network.{Network, fan_of, is_declared, floor_of, ceiling_of}
 use Rattle.cvc_law.specs.Conduction.{given, target}
-use Rattle.cvc_law.specs.Reach.{widest, device_at, target_place, gives}
+use Rattle.cvc_law.specs.Reach.{widest, device_at, target_place}
 use Rattle.cvc_law.specs.ReachWord.{stored, word_of, reach_in, IsInMillion}
-use Rattle.cvc_law.proofs.ReachPlaces.{device_at_get}
 use Rattle.cvc_law.proofs.ReachFans.{fan_has, touches_given}
 use Rattle.cvc_law.proofs.ReachGiving.{gives_in_range}
 use Rattle.cvc_law.proofs.ReachConduct.{given_in_range}
+use Rattle.cvc_law.proofs.WordOrder.{low_less, high_less, low_most, high_most}
 use Rattle.cvc_core.specs.declared.actor.Debt.{Debt}
 use Rattle.cvc_core.specs.declared.actor.Run.{Run}
 use Rattle.cvc_core.specs.declared.actor.Actor.{Actor}
@@ -23,12 +23,12 @@ use Rattle.cvc_core.specs.declared.actor.Actor.TheVariants.{Idle, Running}
 use Rattle.cvc_core.specs.declared.actor.Intent.{Intent}
 use Rattle.cvc_core.specs.declared.actor.Intent.TheVariants.{Widen, TakeCredit, Queue, Release, GiveCredit}
 use Rattle.cvc_core.specs.State.{run_of, device_of, held, given_at, offer, debt_of, next_device}
-use Rattle.cvc_core.specs.Steps.{IsAllowed, IsLoaded, IsSettled, one_more, one_less, new_actor, next_debt, is_queued, widened}
-use Rattle.cvc_core.specs.Store.{IsReady, held_reads}
+use Rattle.cvc_core.specs.Steps.{IsAllowed, IsSettled, one_more, one_less, new_actor, next_debt, is_queued, widened}
+use Rattle.cvc_core.specs.Store.{held_reads}
 use Rattle.cvc_field.specs.declared.view.View.{View}
 use Rattle.cvc_field.specs.Views.{advance, value_found, IsBoundWord}
 use Rattle.cvc_field.specs.Runs.{SettledTo, IsGiving, MayGive, IsOwing, IsMarking, debt_from, given_run, with_debt}
-use Rattle.cvc_field.proofs.Operands.{operand_low, operand_high, low_less, high_less, low_most, high_most, offers_nothing, offers_something}
+use Rattle.cvc_field.proofs.Operands.{operand_low, operand_high, offers_nothing, offers_something}
 
 -- what the actor is at after a step
 actor_is : (c : Network) (i : Intent) (v w : View) (r : ℕ) → v.circuit ≡ c → w ≡ advance i v r → w.actor ≡ new_actor c i v.actor (value_found c i v.actor r)

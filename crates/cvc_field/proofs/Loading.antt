@@ -1,5 +1,5 @@
 -- The reads of a device are loaded, one after the other.
-use Rattle.std.proofs.Common.{◌≡◌, ℕ, zero, suc, ◌+◌, ◌%◌, ◌<◌, ◌≤◌, Bool, true, false, List, Option, None, Some, IsSome, length, replicate, set, slice_index_or, arith, ap, refl, sym, subst, ◌∙◌, length-set, get_or-set_other, lt-ltb, inr}
+use Rattle.std.proofs.Common.{◌≡◌, ℕ, zero, suc, ◌+◌, ◌%◌, ◌<◌, ◌≤◌, true, false, List, Option, None, Some, IsSome, replicate, set, slice_index_or, arith, ap, refl, sym, subst, ◌∙◌, length-set, get_or-set_other, lt-ltb}
 use Rattle.std.specs.Prelude.{ℤ}
 use Rattle.std.proofs.lemmas.Grind.{get_or-set_at}
 use Rattle.std.proofs.lemmas.Bool.Decides.{nat_tests}
@@ -9,7 +9,6 @@ use Rattle.cvc_base.specs.declared.ids.DevId.{DevId}
 use Rattle.std.specs.Prelude.{slice_get}
 use Rattle.cvc_law.specs.declared.device.Device.{Device}
 use Rattle.cvc_law.proofs.ReachPlaces.{device_at_is}
-use Rattle.cvc_law.specs.declared.interval.Reads.{Reads}
 use Rattle.cvc_law.specs.Network.{Network, devices, IsCircuit, ceiling_of, floor_of}
 use Rattle.cvc_law.specs.Reach.{widest, low_of, high_of, bound_of, device_at, read_place, read_count, needs}
 use Rattle.cvc_law.specs.ReachWord.{bound_in, reach_in}
@@ -19,10 +18,9 @@ use Rattle.cvc_core.specs.declared.actor.Actor.TheVariants.{Running}
 use Rattle.cvc_core.specs.declared.actor.Intent.TheVariants.{Read}
 use Rattle.cvc_core.specs.State.{run_of, device_of, or_nothing, read_at, held}
 use Rattle.cvc_core.specs.Steps.{IsAllowed, begun, loaded, new_actor}
-use Rattle.cvc_core.specs.Store.{held_reads}
 use Rattle.cvc_field.specs.declared.view.View.{View}
 use Rattle.cvc_field.specs.Views.{advance, value_found, IsBoundWord}
-use Rattle.cvc_field.specs.Runs.{LoadedTo, IsLoading, SettledTo, IsGiving, reads_in}
+use Rattle.cvc_field.specs.Runs.{LoadedTo, IsLoading, IsGiving, reads_in}
 use Rattle.cvc_field.proofs.Bounds.{bound_of_word}
 
 -- ---- at the beginning

@@ -1,5 +1,5 @@
 -- Each change of a word is the step that is meant.
-use Rattle.std.proofs.Common.{◌≡◌, ℕ, zero, suc, ◌+◌, ◌-◌, ◌%◌, ◌^◌, ◌<◌, ◌≤◌, min, max, Bool, true, false, cond, ◌==◌, length, arith, ap, refl, sym, subst, ◌∙◌, bit_and, bit_or, eqb-true}
+use Rattle.std.proofs.Common.{◌≡◌, ℕ, zero, suc, ◌+◌, ◌-◌, ◌%◌, ◌^◌, ◌<◌, ◌≤◌, min, max, Bool, true, false, cond, ◌==◌, arith, ap, refl, sym, subst, ◌∙◌, bit_and, bit_or, eqb-true}
 use prog.Atomic.{either}
 use Rattle.cvc_base.specs.declared.ids.DevId.{DevId}
 use Rattle.cvc_law.specs.Network.{Network, devices, IsCircuit}
@@ -12,7 +12,7 @@ use Rattle.cvc_core.specs.declared.actor.Intent.TheVariants.{Read, Widen, TakeCr
 use Rattle.cvc_core.specs.State.{CountWord, BoundWord, MarkWord, run_of, offer, device_of, credits_of}
 use Rattle.cvc_core.specs.Steps.{place_of, new_word, IsAllowed, is_queued, IsPresent}
 use Rattle.cvc_field.specs.declared.view.View.{View}
-use Rattle.cvc_field.specs.Words.{word_index, word_at, value_in}
+use Rattle.cvc_field.specs.Words.{word_index, value_in}
 use Rattle.cvc_field.specs.Views.{take_or_look, IsBoundWord, Tells}
 use Rattle.cvc_field.specs.Words.{IsPlace}
 use Rattle.cvc_field.specs.Field.{Moves}

@@ -1,17 +1,14 @@
 -- The words at the start are a sound field.
-use Rattle.std.proofs.Common.{add-one, append_assoc, take, ◌≡◌, ℕ, zero, suc, ◌+◌, ◌*◌, ◌/◌, ◌-◌, ◌%◌, ◌<◌, ◌≤◌, false, List, [], ◌∷◌, ◌++◌, length, slice_index, slice_index_or, get_or, Option, Some, None, replicate, arith, ap, refl, sym, subst, ◌∙◌, length-append, true≢false}
-use Rattle.std.specs.Prelude.{ℤ, IfSome}
+use Rattle.std.proofs.Common.{add-one, append_assoc, take, ◌≡◌, ℕ, zero, suc, ◌+◌, ◌*◌, ◌/◌, ◌-◌, ◌%◌, ◌<◌, ◌≤◌, false, List, [], ◌∷◌, ◌++◌, length, slice_index, slice_index_or, get_or, Option, None, replicate, arith, ap, refl, sym, subst, ◌∙◌, length-append, true≢false}
 use Rattle.std.proofs.lemmas.List.{length-replicate, get_or_append_left}
 use mathlib.Core.Option.{some, some-injective, some-ne-none}
 use lib.ListN.{get_elem?}
 use Rattle.atomic_table.specs.Table.{opening}
 use Rattle.cvc_law.specs.declared.interval.Fixed.{Fixed}
-use Rattle.cvc_law.specs.Network.{Network, devices, fixed_at, floor_of, ceiling_of, IsCircuit}
-use Rattle.cvc_law.specs.Family.{IsInRange}
-use Rattle.cvc_law.specs.Reach.{width, bound_on, bound_of, reach_on, declared_interval, declared_reach}
-use Rattle.cvc_law.specs.ReachWord.{stored, IsInMillion}
-use Rattle.cvc_law.proofs.ReachPlaces.{declared_in_range}
-use Rattle.cvc_law.proofs.ReachValues.{low_of_low, high_of_high}
+use Rattle.cvc_law.specs.Network.{Network, devices, fixed_at, IsCircuit}
+use Rattle.cvc_law.specs.Reach.{width, bound_on, declared_interval}
+use Rattle.cvc_law.specs.ReachWord.{stored, word_of, IsInMillion}
+use Rattle.cvc_law.proofs.WordOrder.{declared_word}
 use Rattle.cvc_core.specs.declared.actor.Actor.TheVariants.{Absent, Idle}
 use Rattle.cvc_core.specs.State.{Place, CountWord, BoundWord, MarkWord, found}
 use Rattle.cvc_core.specs.Steps.{IsPresent}
@@ -34,20 +31,13 @@ row_at (x ∷ xs) zero lt = refl
 row_at (x ∷ xs) (suc zero) lt = refl
 row_at (x ∷ xs) (suc (suc b)) lt = let side : suc (suc b) % 2 ≡ b % 2 = omega arith in let net : suc (suc b) / 2 ≡ suc (b / 2) = omega arith in rw (side, net) (row_at xs b (omega arith))
 
--- a declared bound is that of its reach
-declared_back : (c : Network) (o : Option Fixed) → ((w : Fixed) → o ≡ Some w → IsInRange c w.low × IsInRange c w.high) → (side : ℕ) → bound_of c side (reach_on c side (declared_interval o)) ≡ bound_on side (declared_interval o)
-declared_back c None h zero = low_of_low (floor_of c) (ceiling_of c) None tt
-declared_back c None h (suc n) = high_of_high (floor_of c) (ceiling_of c) None tt
-declared_back c (Some w) h zero = low_of_low (floor_of c) (ceiling_of c) (Some w.low) (h w refl).0
-declared_back c (Some w) h (suc n) = high_of_high (floor_of c) (ceiling_of c) (Some w.high) (h w refl).1
-
 past : (l m : List ℕ) (n d : ℕ) → length l ≡ n → slice_index (l ++ m) (n + d) ≡ slice_index m d
 past [] m n d e = let z : n + d ≡ d = omega arith in ap (slice_index m) z
 past (x ∷ xs) m zero d e = absurd (omega arith)
 past (x ∷ xs) m (suc n) d e = let z : suc n + d ≡ suc (n + d) = omega arith in rw z (past xs m n d (omega arith))
 
 start_bound : (c : Network) (hands b : ℕ) → IsCircuit c.fixed c.devices → stored (b % 2) (bound_on (b % 2) (declared_interval (fixed_at c (b / 2)))) ≡ word_at c (BoundWord b) (slice_index (start c hands).bounds b)
-start_bound c hands b circuit = ap (stored (b % 2)) (sym (declared_back c (fixed_at c (b / 2)) (declared_in_range c circuit (b / 2)) (b % 2)) ∙ ap (bound_of c (b % 2)) (sym (start_at c hands b)))
+start_bound c hands b circuit = sym (declared_word c b circuit) ∙ ap (word_of c (b % 2)) (sym (start_at c hands b))
 
 start_word : (c : Network) (hands : ℕ) (q : Place) → IsCircuit c.fixed c.devices → IsPlace c q → slice_index (start_words c) (word_index c q) ≡ word_at c q (found (start c hands) q)
 unfolding start

@@ -1,14 +1,14 @@
 -- Laws of words, trails and lists of views.
-use Rattle.std.proofs.Common.{◌≡◌, ℕ, zero, suc, ◌+◌, ◌%◌, ◌<◌, ◌≤◌, Bool, true, false, ◌||◌, List, [], ◌∷◌, ◌++◌, length, slice_index, set, le_trans, arith, ap, refl, sym, subst, ◌∙◌, ◌⊎◌, inl, inr, eq-eqb, true≢false}
+use Rattle.std.proofs.Common.{◌≡◌, ℕ, zero, suc, ◌+◌, ◌%◌, ◌<◌, Bool, true, false, ◌||◌, List, [], ◌∷◌, ◌++◌, length, slice_index, set, le_trans, arith, ap, refl, sym, subst, ◌∙◌, ◌⊎◌, inl, inr, eq-eqb, true≢false}
 use mathlib.Core.Option.{some, some-injective, some-ne-none}
 use mathlib.Core.Logic.{dite}
 use native.Mathlib.Decide.{ℕ_discrete}
 use lib.ListN.{get_elem?}
 use Rattle.atomic_table.proofs.Lists.{set_here, set_else}
 use Rattle.cvc_law.specs.Network.{Network, devices}
-use Rattle.cvc_law.specs.Reach.{width, widest, is_declared_bound}
-use Rattle.cvc_law.specs.ReachWord.{word_of, reach_in, IsInMillion}
-use Rattle.cvc_law.specs.ReachLeast.{IsReachWithin, IsReachFamily}
+use Rattle.cvc_law.specs.Reach.{width}
+use Rattle.cvc_law.specs.ReachWord.{IsInMillion}
+use Rattle.cvc_law.specs.ReachLeast.{IsReachWithin}
 use Rattle.cvc_law.proofs.ReachWords.{reach_in_word}
 use Rattle.cvc_core.specs.State.{Machine, Place, CountWord, BoundWord, MarkWord, found}
 use Rattle.cvc_core.specs.Sound.{Sound}

@@ -1,7 +1,7 @@
 -- What turns add to the trail of a hand.
-use Rattle.std.proofs.Common.{◌≡◌, ◌≢◌, ℕ, zero, suc, ◌+◌, ◌<◌, ◌≤◌, min, Bool, true, false, cond, not, ◌&&◌, ◌||◌, ◌==◌, MatchBool, List, [], ◌∷◌, ◌++◌, take, length, arith, ap, refl, sym, subst, ◌∙◌, append_assoc, append-nil, eq-eqb, eqb-true, ne_eqb, true≢false, ◌⊎◌, ⊎_elim}
+use Rattle.std.proofs.Common.{◌≡◌, ◌≢◌, ℕ, ◌+◌, ◌<◌, ◌≤◌, min, Bool, true, false, cond, ◌||◌, ◌==◌, MatchBool, List, [], ◌∷◌, ◌++◌, take, arith, ap, refl, sym, subst, ◌∙◌, append_assoc, append-nil, eq-eqb, eqb-true, ne_eqb, true≢false}
 use mathlib.Core.Logic.{dite}
-use native.Mathlib.Decide.{ℕ_discrete, dec_lt}
+use native.Mathlib.Decide.{dec_lt}
 use Rattle.cvc_base.specs.declared.ids.DevId.{DevId}
 use Rattle.atomic_table.specs.declared.shared.Seat.{Seat}
 use Rattle.cvc_law.specs.Network.{Network, devices}
@@ -9,7 +9,7 @@ use Rattle.cvc_core.specs.declared.actor.Actor.{Actor}
 use Rattle.cvc_core.specs.declared.actor.Actor.TheVariants.{Idle, Running}
 use Rattle.cvc_core.specs.declared.actor.Intent.{Intent}
 use Rattle.cvc_core.specs.declared.actor.Intent.TheVariants.{Read, Widen, TakeCredit, Queue, Claim, Release, GiveCredit, AskCount, LookAt, Peek}
-use Rattle.cvc_core.specs.Steps.{begun, plain_queued}
+use Rattle.cvc_core.specs.Steps.{begun}
 use Rattle.cvc_field.specs.declared.view.View.{View}
 use Rattle.cvc_field.specs.declared.view.Entry.{Entry}
 use Rattle.cvc_field.specs.declared.view.Entry.TheVariants.{Loaded, Gave, Added, Queued, Took, Dropped, Subtracted, Counted, Looked}
@@ -19,8 +19,8 @@ use Rattle.cvc_field.specs.declared.turn.TurnOn.{TurnOn}
 use Rattle.cvc_field.specs.declared.turn.TurnOn.TheVariants.{Worked, Missed}
 use Rattle.cvc_field.specs.Trail.{entry_of, counted_zero, is_quiet}
 use Rattle.cvc_field.specs.Views.{advance, take_or_look}
-use Rattle.cvc_field.specs.Steps.{Step, next_actor, AreAllowed, actor_after, entries, IsOfRun, AreOfRun, newly, newly_queued, went}
-use Rattle.cvc_field.specs.Runs.{Goes, GoesNoting}
+use Rattle.cvc_field.specs.Steps.{Step, next_actor, AreAllowed, actor_after, entries, IsOfRun, AreOfRun, newly_queued, went}
+use Rattle.cvc_field.specs.Runs.{GoesNoting}
 use Rattle.cvc_field.specs.Hands.{HandView, hand_of, idle_view, IsWithin}
 use Rattle.cvc_field.specs.Turns.{IsRunOf, AreLooks, is_away, was_away, IsTurn, IsTurnOn, IsExchange, IsScan, grown, quiet_of, tray_of}
 use Rattle.cvc_field.proofs.Trails.{is_quiet-append}

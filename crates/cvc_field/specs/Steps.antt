@@ -5,7 +5,7 @@ use Rattle.cvc_base.specs.declared.ids.DevId.{DevId}
 use Rattle.cvc_law.specs.Network.{Network}
 use Rattle.cvc_core.specs.declared.actor.Actor.{Actor}
 use Rattle.cvc_core.specs.declared.actor.Intent.{Intent}
-use Rattle.cvc_core.specs.declared.actor.Intent.TheVariants.{Read, Widen, TakeCredit, Queue, Claim, Release, GiveCredit, AskCount, LookAt, Peek}
+use Rattle.cvc_core.specs.declared.actor.Intent.TheVariants.{Claim, AskCount, LookAt, Peek}
 use Rattle.cvc_core.specs.Steps.{IsAllowed, new_actor, is_queued}
 use Rattle.cvc_field.specs.declared.view.View.{View}
 use Rattle.cvc_field.specs.declared.view.Entry.{Entry}

@@ -6,7 +6,6 @@ ghost use Rattle.cvc_law.specs.Reach.{width};
 use crate::hand::Hand;
 use crate::opening::start_words;
 use crate::plays::FieldRule;
-use crate::range::in_million;
 use crate::view::{Plan, View};
 use atomic_table::Table;
 use cvc_base::NoMemory;
@@ -40,7 +39,7 @@ impl<'c> Field<'c> {
         ensures field { IfOk result (λ r. (r.0.circuit.now ≡ circuit.now) × (hands_of r.0 ≡ hands)) }
         ensures hand { IfOk result (λ r. IsHandOf r.0 r.1 × (r.1.first ≡ 0) × (r.1.numbers ≡ hands) × (r.1.trail ≡ [])) }
     {
-        in_million(circuit);
+        let _floor = circuit.floor();
         let words = start_words(alloc, circuit)?;
         let plan = Plan {
             circuit: Snapshot::of(circuit),

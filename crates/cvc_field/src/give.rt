@@ -13,7 +13,6 @@ ghost use Rattle.cvc_field.specs.Seats.{IsSeatOf};
 
 use crate::field::Field;
 use crate::places::target;
-use crate::range::in_million;
 use crate::tray::{Tray, note};
 use crate::view::View;
 use crate::words::value_word;
@@ -124,7 +123,7 @@ impl<'c> Field<'c> {
         ensures giving { IsGiving self.now.circuit.now d reads.now (slot + 1) None result seat.new.me.0.actor }
         ensures goes { GoesNoting seat.old.me.0 seat.new.me.0 tray.old.items tray.new.items }
     {
-        in_million(self.circuit);
+        let _floor = self.circuit.floor();
         let net = target(self.circuit, d, slot);
         if self.circuit.fixed(net).is_some() {
             return spare;

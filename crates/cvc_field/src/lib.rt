@@ -11,7 +11,6 @@ mod load;
 mod opening;
 mod places;
 mod plays;
-mod range;
 mod ranges;
 mod read;
 mod run;

@@ -13,3 +13,13 @@ pub mod Growing
 pub mod Stack
 pub mod Once
 pub mod Following
+pub mod Givens
+pub mod Pigeons
+pub mod Chains
+pub mod Loops
+pub mod Indexing
+pub mod Sighting
+pub mod Listing
+pub mod Sighted
+pub mod Plainly
+pub mod Seeing

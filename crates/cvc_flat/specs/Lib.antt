@@ -13,3 +13,6 @@ pub mod Tables
 pub mod Resolving
 pub mod Plans
 pub mod Levels
+pub mod PairIndexes
+pub mod Sights
+pub mod Plain

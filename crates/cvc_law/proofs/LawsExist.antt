@@ -6,7 +6,7 @@ use Rattle.std.specs.Prelude.{slice_index, slice_set}
 use Rattle.cvc_law.specs.declared.device.Device.{Device}
 use Rattle.cvc_law.specs.Network.{Network, devices, is_declared, IsCircuit}
 use Rattle.cvc_law.specs.Conduction.{target}
-use Rattle.cvc_law.specs.Reach.{widest, width, device_at, read_place, target_place, gives, reach_reads}
+use Rattle.cvc_law.specs.Reach.{widest, width, device_at, read_place, target_place, reach_given, reach_reads}
 use Rattle.cvc_law.specs.ReachLeast.{opening, IsReachFamily, IsReachWithin, IsReachClosedAt, IsReachClosed, IsReachLeast}
 use Rattle.cvc_law.proofs.ReachGiving.{gives_within, gives_in_range}
 use Rattle.cvc_law.proofs.ReachPlaces.{device_sound, target_place_within}
@@ -22,16 +22,16 @@ up_to P n below here k lt = elim (cases_lt k n) [
 
 module _ (c : Network) (circuit : IsCircuit c.fixed c.devices) where
   abbrev IsGood : List ℕ → Device → ℕ → Type 0
-  IsGood f d k = is_declared c (target d k) ≡ false → gives c d k (reach_reads f d) ≤ slice_index f (target_place d k)
+  IsGood f d k = is_declared c (target d k) ≡ false → reach_given c d k (reach_reads f d) ≤ slice_index f (target_place d k)
 
   -- the slot gives more than its target has
   abbrev GivesMore : List ℕ → Device → ℕ → Type 0
-  GivesMore f d k = (is_declared c (target d k) ≡ false) × (slice_index f (target_place d k) < gives c d k (reach_reads f d))
+  GivesMore f d k = (is_declared c (target d k) ≡ false) × (slice_index f (target_place d k) < reach_given c d k (reach_reads f d))
 
   -- ---- closed, or a slot that gives more
   try_slot : (f : List ℕ) (d : Device) (k : ℕ) → IsGood f d k ⊎ GivesMore f d k
-  try_slot f d k = by (is_declared c (target d k)) refl (cases_lt (slice_index f (target_place d k)) (gives c d k (reach_reads f d))) where
-    by : (b : Bool) → is_declared c (target d k) ≡ b → (slice_index f (target_place d k) < gives c d k (reach_reads f d)) ⊎ (gives c d k (reach_reads f d) ≤ slice_index f (target_place d k)) → IsGood f d k ⊎ GivesMore f d k
+  try_slot f d k = by (is_declared c (target d k)) refl (cases_lt (slice_index f (target_place d k)) (reach_given c d k (reach_reads f d))) where
+    by : (b : Bool) → is_declared c (target d k) ≡ b → (slice_index f (target_place d k) < reach_given c d k (reach_reads f d)) ⊎ (reach_given c d k (reach_reads f d) ≤ slice_index f (target_place d k)) → IsGood f d k ⊎ GivesMore f d k
     by true e h = inl (λ free. absurd (false≢true (sym free ∙ e)))
     by false e (inl more) = inr (e, more)
     by false e (inr le) = inl (λ _. le)
@@ -54,19 +54,19 @@ module _ (c : Network) (circuit : IsCircuit c.fixed c.devices) where
 
   -- ---- one bound widened
   abbrev widened : List ℕ → Device → ℕ → List ℕ
-  widened f d k = slice_set f (target_place d k) (gives c d k (reach_reads f d))
+  widened f d k = slice_set f (target_place d k) (reach_given c d k (reach_reads f d))
 
   WithinClosed : List ℕ → Type 0
   WithinClosed f = (g : List ℕ) → IsReachFamily c g → IsReachClosed c g → IsReachWithin f g
 
   widened_family : (f : List ℕ) (d : Device) (k : ℕ) → target_place d k < length f → GivesMore f d k → IsReachFamily c f → IsReachFamily c (widened f d k)
-  widened_family f d k inside more family = set_family c f (target_place d k) (gives c d k (reach_reads f d)) inside (target_free c d k more.0) (gives_in_range c d k (reach_reads f d) (family.in_range (read_place d k))) family
+  widened_family f d k inside more family = set_family c f (target_place d k) (reach_given c d k (reach_reads f d)) inside (target_free c d k more.0) (gives_in_range c d k (reach_reads f d) (family.in_range (read_place d k))) family
 
   widened_within : (f : List ℕ) (i k : ℕ) → i < devices c → k < 4 → target_place (device_at c i) k < length f → GivesMore f (device_at c i) k → WithinClosed f → WithinClosed (widened f (device_at c i) k)
   unfolding WithinClosed
   widened_within f i k lt small inside more within g family closed b =
       let d = device_at c i in
-      set_within f (target_place d k) (gives c d k (reach_reads f d)) g inside (within g family closed) (le_trans (gives_within c f g d k (within g family closed)) (closed i lt k small more.0)) b
+      set_within f (target_place d k) (reach_given c d k (reach_reads f d)) g inside (within g family closed) (le_trans (gives_within c f g d k (within g family closed)) (closed i lt k small more.0)) b
 
   -- ---- until it is closed
   climb : (fuel : ℕ) (f : List ℕ) → IsReachFamily c f → WithinClosed f → room (width c) (widest c) < total f + fuel → (h : List ℕ) × IsReachLeast c h
@@ -78,7 +78,7 @@ module _ (c : Network) (circuit : IsCircuit c.fixed c.devices) where
     | inr more ↦ let d = device_at c more.0 in
         let place : target_place d more.1 < width c = target_place_within c d (device_sound c circuit more.0 more.2) more.1 in
         let inside : target_place d more.1 < length f = omega (arith, family.every_bound) in
-        let grows : total (widened f d more.1) + slice_index f (target_place d more.1) ≡ total f + gives c d more.1 (reach_reads f d) = total-set f (target_place d more.1) (gives c d more.1 (reach_reads f d)) inside in
+        let grows : total (widened f d more.1) + slice_index f (target_place d more.1) ≡ total f + reach_given c d more.1 (reach_reads f d) = total-set f (target_place d more.1) (reach_given c d more.1 (reach_reads f d)) inside in
         climb fuel (widened f d more.1) (widened_family f d more.1 inside more.4 family) (widened_within f more.0 more.1 more.2 more.3 inside more.4 within) (omega (arith, more.4.1))
   ]
 

@@ -10,7 +10,7 @@ use Rattle.cvc_law.specs.declared.device.Device.{Device}
 use Rattle.cvc_law.specs.Network.{Network, floor_of, ceiling_of}
 use Rattle.cvc_law.specs.Conduction.{offered, kept_within, given}
 use Rattle.cvc_law.specs.Monotone.{AreInRange, AreAsWide, IsAsWide, TakesIn}
-use Rattle.cvc_law.specs.Reach.{reach_of, reach_on, gives, read_interval, reaches_of_reads}
+use Rattle.cvc_law.specs.Reach.{reach_of, reach_on, reach_given, read_interval, reaches_of_reads}
 use Rattle.cvc_law.proofs.ReachValues.{low_back, high_back}
 use Rattle.cvc_law.proofs.ReachRows.{kept_none}
 use Rattle.cvc_law.proofs.ReachConduct.{gives_is, given_in_range}
@@ -37,9 +37,9 @@ module _ (c : Network) (d : Device) (r s : Reads) (drop : pos 0 ≤ℤ d.volts.d
 
   reaches_wider : (k : ℕ) (v : ℤ) → k < 4 → given c d k r ≡ Some v → reach_of c (k % 2) (Some v) ≤ reach_of c (k % 2) (given c d k s)
   reaches_wider k v lt is =
-      let before : gives c d k (reaches_of_reads c r) ≡ reach_of c (k % 2) (Some v) = gives_is c d k r lt drop first ∙ ap (reach_of c (k % 2)) is in
-      let after : gives c d k (reaches_of_reads c s) ≡ reach_of c (k % 2) (given c d k s) = gives_is c d k s lt drop second in
-      let more : gives c d k (reaches_of_reads c r) ≤ gives c d k (reaches_of_reads c s) = gives-le c d k (reaches_of_reads c r) (reaches_of_reads c s) (λ i. reads_wider (i / 2) (i % 2)) in
+      let before : reach_given c d k (reaches_of_reads c r) ≡ reach_of c (k % 2) (Some v) = gives_is c d k r lt drop first ∙ ap (reach_of c (k % 2)) is in
+      let after : reach_given c d k (reaches_of_reads c s) ≡ reach_of c (k % 2) (given c d k s) = gives_is c d k s lt drop second in
+      let more : reach_given c d k (reaches_of_reads c r) ≤ reach_given c d k (reaches_of_reads c s) = gives-le c d k (reaches_of_reads c r) (reaches_of_reads c s) (λ i. reads_wider (i / 2) (i % 2)) in
       omega arith
 
   pub monotone : (k : ℕ) (v : ℤ) → given c d k r ≡ Some v → IsSomeAnd (given c d k s) (TakesIn k v)

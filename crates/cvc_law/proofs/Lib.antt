@@ -13,6 +13,8 @@ pub mod ReachFamilies
 pub mod ReachAgree
 pub mod ReachWidening
 pub mod ReachWords
+pub mod WordOrder
+pub mod ReachBoth
 pub mod LawsExist
 pub mod LawsMonotone
 pub mod LawsUnique

@@ -9,7 +9,7 @@ use Rattle.cvc_law.specs.Family.{interval_at, IsInRange, IsFamily}
 use Rattle.cvc_law.specs.Conduction.{given, target}
 use Rattle.cvc_law.specs.Least.{reads_of, IsClosedAt, IsClosed, IsLeast}
 use Rattle.cvc_law.specs.Monotone.{AreInRange}
-use Rattle.cvc_law.specs.Reach.{low_reach, high_reach, low_of, high_of, bound_of, reach_of, reach_on, widest, is_declared_bound, declared_reach, device_at, end_net, read_place, target_place, gives, reach_reads, read_interval, reaches_of_reads}
+use Rattle.cvc_law.specs.Reach.{low_reach, high_reach, low_of, high_of, bound_of, reach_of, reach_on, widest, is_declared_bound, declared_reach, device_at, end_net, read_place, target_place, reach_given, reach_reads, read_interval, reaches_of_reads}
 use Rattle.cvc_law.specs.ReachLeast.{reaches, intervals, IsReachFamily, IsReachWithin, IsReachClosedAt, IsReachClosed, IsReachLeast}
 use Rattle.cvc_law.proofs.ReachValues.{low_of_reach, high_of_reach, low_of_between, high_of_between, low_of_low, high_of_high}
 use Rattle.cvc_law.proofs.ReachPlaces.{device_at_is, device_at_get, device_sound, declared_in_range}
@@ -36,7 +36,7 @@ module _ (c : Network) where
       reach_at c f (read_place d i) ∙ (ap (λ (s : ℕ). reach_on c s (interval_at f (read_place d i / 2))) side ∙ (ap (λ (n : ℕ). reach_on c (i % 2) (interval_at f n)) net ∙ ap (reach_on c (i % 2)) (sym (read_at f d (i / 2)))))
 
   -- what the table gives on a family's own bounds has the reach that the reach form gives
-  pub gives_on_family : (f : List Interval) (d : Device) (k : ℕ) → k < 4 → pos 0 ≤ℤ d.volts.drop → IsFamily c f → gives c d k (reach_reads (reaches c f) d) ≡ reach_of c (k % 2) (given c d k (reads_of f d))
+  pub gives_on_family : (f : List Interval) (d : Device) (k : ℕ) → k < 4 → pos 0 ≤ℤ d.volts.drop → IsFamily c f → reach_given c d k (reach_reads (reaches c f) d) ≡ reach_of c (k % 2) (given c d k (reads_of f d))
   gives_on_family f d k lt drop family = gives_same c d k (reach_reads (reaches c f) d) (reaches_of_reads c (reads_of f d)) (reads_reaches f d) ∙ gives_is c d k (reads_of f d) lt drop (reads_in_range f d family)
 
   target_at : (f : List Interval) (d : Device) (k : ℕ) → slice_index (reaches c f) (target_place d k) ≡ reach_on c (k % 2) (interval_at f (target d k))
@@ -44,12 +44,12 @@ module _ (c : Network) where
       reach_at c f (target_place d k) ∙ (ap (λ (s : ℕ). reach_on c s (interval_at f (target_place d k / 2))) side ∙ ap (λ (n : ℕ). reach_on c (k % 2) (interval_at f n)) net)
 
   pub closed_at_reaches : (f : List Interval) (d : Device) → pos 0 ≤ℤ d.volts.drop → IsFamily c f → IsClosedAt c f d → IsReachClosedAt c (reaches c f) d
-  closed_at_reaches f d drop family closed k lt free = let as_table : gives c d k (reach_reads (reaches c f) d) ≡ reach_of c (k % 2) (given c d k (reads_of f d)) = gives_on_family f d k lt drop family in
+  closed_at_reaches f d drop family closed k lt free = let as_table : reach_given c d k (reach_reads (reaches c f) d) ≡ reach_of c (k % 2) (given c d k (reads_of f d)) = gives_on_family f d k lt drop family in
       let there : slice_index (reaches c f) (target_place d k) ≡ reach_on c (k % 2) (interval_at f (target d k)) = target_at f d k in
       let covered : reach_of c (k % 2) (given c d k (reads_of f d)) ≤ reach_on c (k % 2) (interval_at f (target d k)) = reaches_covered c (interval_at f (target d k)) k (given c d k (reads_of f d)) lt (λ v is. closed k v lt free is) in omega arith
 
   pub closed_at_from_reaches : (f : List Interval) (d : Device) → pos 0 ≤ℤ d.volts.drop → IsFamily c f → IsReachClosedAt c (reaches c f) d → IsClosedAt c f d
-  closed_at_from_reaches f d drop family closed k v lt free is = let as_table : gives c d k (reach_reads (reaches c f) d) ≡ reach_of c (k % 2) (given c d k (reads_of f d)) = gives_on_family f d k lt drop family in
+  closed_at_from_reaches f d drop family closed k v lt free is = let as_table : reach_given c d k (reach_reads (reaches c f) d) ≡ reach_of c (k % 2) (given c d k (reads_of f d)) = gives_on_family f d k lt drop family in
       let there : slice_index (reaches c f) (target_place d k) ≡ reach_on c (k % 2) (interval_at f (target d k)) = target_at f d k in
       let same : reach_of c (k % 2) (given c d k (reads_of f d)) ≡ reach_of c (k % 2) (Some v) = ap (reach_of c (k % 2)) is in
       covers_reached c (interval_at f (target d k)) k v lt (given_in_range c d k (reads_of f d) v is) (omega (arith, closed k lt free))

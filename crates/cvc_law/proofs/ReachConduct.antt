@@ -13,7 +13,7 @@ use Rattle.cvc_law.specs.Conduction.{offered, kept_within, given}
 use Rattle.cvc_law.specs.Family.{IsInRange}
 use Rattle.cvc_law.specs.Least.{Covers}
 use Rattle.cvc_law.specs.Monotone.{AreInRange}
-use Rattle.cvc_law.specs.Reach.{reach_of, reach_on, widest, hands_on, gives, reaches_of_reads}
+use Rattle.cvc_law.specs.Reach.{reach_of, reach_on, widest, hands_on, reach_given, reaches_of_reads}
 use Rattle.cvc_law.proofs.ReachValues.{Between, low_wider, high_wider, low_back, high_back}
 use Rattle.cvc_law.proofs.ReachRows.{low_same, high_same, low_if_on, high_if_on, low_up_to, high_up_to, low_drop, high_drop, low_nothing, high_nothing}
 
@@ -49,8 +49,8 @@ module _ (c : Network) (v : Volts) (r : Reads) (drop : pos 0 ≤ℤ v.drop) (ran
   row Bipolar (suc (suc (suc zero))) lt = high_nothing (floor_of c) (ceiling_of c)
   row _ (suc (suc (suc (suc k)))) lt = absurd (omega arith)
 
-pub gives_is : (c : Network) (d : Device) (k : ℕ) (r : Reads) → k < 4 → pos 0 ≤ℤ d.volts.drop → AreInRange c r → gives c d k (reaches_of_reads c r) ≡ reach_of c (k % 2) (given c d k r)
-unfolding gives
+pub gives_is : (c : Network) (d : Device) (k : ℕ) (r : Reads) → k < 4 → pos 0 ≤ℤ d.volts.drop → AreInRange c r → reach_given c d k (reaches_of_reads c r) ≡ reach_of c (k % 2) (given c d k r)
+unfolding reach_given
 gives_is c d k r lt drop range = sym (row c d.volts r drop range d.kind k lt)
 
 kept_between : (f c x v : ℤ) (p q : Bool) → int_le f x ≡ p → int_le x c ≡ q → cond (p && q) (Some x) None ≡ Some v → (f ≤ℤ v) × (v ≤ℤ c)

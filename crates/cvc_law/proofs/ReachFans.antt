@@ -8,7 +8,7 @@ use Rattle.cvc_base.specs.declared.device.Volts.{Volts}
 use Rattle.cvc_law.specs.declared.device.Device.{Device}
 use Rattle.cvc_law.specs.Conduction.{target}
 use Rattle.cvc_law.specs.Network.{Network, devices, end_a, end_b, is_mos, conducts, touches, touching_from, fan_of}
-use Rattle.cvc_law.specs.Reach.{device_at, no_device, needs, end_net, gives, hands_on, widest}
+use Rattle.cvc_law.specs.Reach.{device_at, no_device, needs, end_net, reach_given, hands_on, widest}
 
 module _ (n : ℕ) where
   abbrev listed : Bool → ℕ → List ℕ → List ℕ
@@ -77,6 +77,6 @@ target_end d k h = elim (nat_lt k 2) as (λ b. touches (cond b (end_b d) (end_a 
 ]
 
 -- a device that gives a net something reads that net too
-pub touches_given : (c : Network) (d : Device) (k : ℕ) (r : ℕ → ℕ) → 0 < gives c d k r → touches (target d k) d ≡ true
-unfolding gives
+pub touches_given : (c : Network) (d : Device) (k : ℕ) (r : ℕ → ℕ) → 0 < reach_given c d k r → touches (target d k) d ≡ true
+unfolding reach_given
 touches_given c d k r h = target_end d k (hands_conducts d.kind d.volts (widest c) k r h)

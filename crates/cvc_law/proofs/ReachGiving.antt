@@ -7,7 +7,7 @@ use Rattle.cvc_base.specs.declared.device.Kind.TheVariants.{Nmos, Pmos, Resistor
 use Rattle.cvc_base.specs.declared.device.Volts.{Volts}
 use Rattle.cvc_law.specs.declared.device.Device.{Device}
 use Rattle.cvc_law.specs.Network.{Network}
-use Rattle.cvc_law.specs.Reach.{widest, hands_on, limited_by, moved_in, gives, needs, needed_reads, reach_reads, read_place}
+use Rattle.cvc_law.specs.Reach.{widest, hands_on, limited_by, moved_in, reach_given, needs, needed_reads, reach_reads, read_place}
 use Rattle.cvc_law.specs.ReachLeast.{IsReachWithin}
 use Rattle.cvc_law.proofs.ReachSpans.{moved_in-le, if_on-le, if_on_own}
 
@@ -52,30 +52,30 @@ module _ (v : Volts) (room : ℕ) where
   hands_on_needed Diode k r s lt h = let own : r k ≡ s k = h k (grind (arith, nat_tests)) in rw own
 
 -- wider reads give as much or more
-pub gives-le : (c : Network) (d : Device) (k : ℕ) (r s : ℕ → ℕ) → ((i : ℕ) → r i ≤ s i) → gives c d k r ≤ gives c d k s
-unfolding gives
+pub gives-le : (c : Network) (d : Device) (k : ℕ) (r s : ℕ → ℕ) → ((i : ℕ) → r i ≤ s i) → reach_given c d k r ≤ reach_given c d k s
+unfolding reach_given
 gives-le c d k r s h = hands_on-le d.volts (widest c) d.kind k r s h
 
 -- a slot hands on no more than its own read has
-pub gives_own : (c : Network) (d : Device) (k : ℕ) (r : ℕ → ℕ) → gives c d k r ≤ r k
-unfolding gives
+pub gives_own : (c : Network) (d : Device) (k : ℕ) (r : ℕ → ℕ) → reach_given c d k r ≤ r k
+unfolding reach_given
 gives_own c d k r = hands_on_own d.volts (widest c) d.kind k r
 
-pub gives_in_range : (c : Network) (d : Device) (k : ℕ) (r : ℕ → ℕ) → r k ≤ widest c → gives c d k r ≤ widest c
+pub gives_in_range : (c : Network) (d : Device) (k : ℕ) (r : ℕ → ℕ) → r k ≤ widest c → reach_given c d k r ≤ widest c
 gives_in_range c d k r h = le_trans (gives_own c d k r) h
 
 -- equal reads give equal values
-pub gives_same : (c : Network) (d : Device) (k : ℕ) (r s : ℕ → ℕ) → ((i : ℕ) → r i ≡ s i) → gives c d k r ≡ gives c d k s
-gives_same c d k r s h = ap (gives c d k) (λ j i. h i j)
+pub gives_same : (c : Network) (d : Device) (k : ℕ) (r s : ℕ → ℕ) → ((i : ℕ) → r i ≡ s i) → reach_given c d k r ≡ reach_given c d k s
+gives_same c d k r s h = ap (reach_given c d k) (λ j i. h i j)
 
 -- a slot reads the needed reads alone
-pub gives_needed : (c : Network) (d : Device) (k : ℕ) (r s : ℕ → ℕ) → k < 4 → ((i : ℕ) → needs d.kind i ≡ true → r i ≡ s i) → gives c d k r ≡ gives c d k s
-unfolding gives
+pub gives_needed : (c : Network) (d : Device) (k : ℕ) (r s : ℕ → ℕ) → k < 4 → ((i : ℕ) → needs d.kind i ≡ true → r i ≡ s i) → reach_given c d k r ≡ reach_given c d k s
+unfolding reach_given
 gives_needed c d k r s lt h = hands_on_needed d.volts (widest c) d.kind k r s lt h
 
-pub gives_needed_reads : (c : Network) (d : Device) (k : ℕ) (r : ℕ → ℕ) → k < 4 → gives c d k (needed_reads d.kind r) ≡ gives c d k r
+pub gives_needed_reads : (c : Network) (d : Device) (k : ℕ) (r : ℕ → ℕ) → k < 4 → reach_given c d k (needed_reads d.kind r) ≡ reach_given c d k r
 gives_needed_reads c d k r lt = gives_needed c d k (needed_reads d.kind r) r lt (λ i e. ap (λ b. cond b (r i) 0) e)
 
 -- what a device gives on a family is no more than what it gives on one that the family is within
-pub gives_within : (c : Network) (f g : List ℕ) (d : Device) (k : ℕ) → IsReachWithin f g → gives c d k (reach_reads f d) ≤ gives c d k (reach_reads g d)
+pub gives_within : (c : Network) (f g : List ℕ) (d : Device) (k : ℕ) → IsReachWithin f g → reach_given c d k (reach_reads f d) ≤ reach_given c d k (reach_reads g d)
 gives_within c f g d k within = gives-le c d k (reach_reads f d) (reach_reads g d) (λ i. within (read_place d i))

@@ -7,7 +7,7 @@ use Rattle.std.specs.Prelude.{slice_index, slice_set}
 use Rattle.cvc_law.specs.declared.device.Device.{Device}
 use Rattle.cvc_law.specs.Network.{Network, is_declared, touches}
 use Rattle.cvc_law.specs.Conduction.{target}
-use Rattle.cvc_law.specs.Reach.{widest, is_declared_bound, end_net, needs, read_place, target_place, gives, reach_reads}
+use Rattle.cvc_law.specs.Reach.{widest, is_declared_bound, end_net, needs, read_place, target_place, reach_given, reach_reads}
 use Rattle.cvc_law.specs.ReachLeast.{IsReachFamily, IsReachWithin, IsReachClosedAt}
 use Rattle.cvc_law.proofs.ReachGiving.{gives_needed}
 use Rattle.cvc_law.proofs.ReachFans.{touches_needed}
@@ -55,8 +55,8 @@ reads_apart f d t y off i need = let apart : read_place d i ≢ t = λ same. let
 
 -- and stays closed
 pub closed_apart : (c : Network) (f : List ℕ) (d : Device) (t y : ℕ) → t < length f → touches (t / 2) d ≡ false → slice_index f t ≤ y → IsReachClosedAt c f d → IsReachClosedAt c (slice_set f t y) d
-closed_apart c f d t y inside off wider closed k lt free = let same : gives c d k (reach_reads (slice_set f t y) d) ≡ gives c d k (reach_reads f d) = gives_needed c d k (reach_reads (slice_set f t y) d) (reach_reads f d) lt (reads_apart f d t y off) in
-    let before : gives c d k (reach_reads f d) ≤ slice_index f (target_place d k) = closed k lt free in
+closed_apart c f d t y inside off wider closed k lt free = let same : reach_given c d k (reach_reads (slice_set f t y) d) ≡ reach_given c d k (reach_reads f d) = gives_needed c d k (reach_reads (slice_set f t y) d) (reach_reads f d) lt (reads_apart f d t y off) in
+    let before : reach_given c d k (reach_reads f d) ≤ slice_index f (target_place d k) = closed k lt free in
     let more : slice_index f (target_place d k) ≤ slice_index (slice_set f t y) (target_place d k) = set_wider f t y inside wider (target_place d k) in omega arith
 
 -- ---- the sum of the reaches

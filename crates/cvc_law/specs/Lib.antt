@@ -6,6 +6,8 @@ pub mod Monotone
 pub mod Reach
 pub mod ReachLeast
 pub mod ReachWord
+pub mod WordLaws
+pub mod BothForms
 pub mod Rules
 pub mod Bound
 pub mod Fans

@@ -143,8 +143,8 @@ hands_on Diode v room k r = if (k == 1) || (k == 2) then limited_by v.drop (r k)
 hands_on _ v room k r = 0
 
 -- the reach that a slot of the device gives on these reads, 0 where it gives nothing
-unfoldable pub gives : Network → Device → ℕ → (ℕ → ℕ) → ℕ
-gives c d k r = hands_on d.kind d.volts (widest c) k r
+unfoldable pub reach_given : Network → Device → ℕ → (ℕ → ℕ) → ℕ
+reach_given c d k r = hands_on d.kind d.volts (widest c) k r
 
 -- what a device reads of a family
 abbrev pub reach_reads : List ℕ → Device → ℕ → ℕ
@@ -159,3 +159,11 @@ read_interval r (suc (suc n)) = r.g
 -- the reaches of reads that are given as intervals
 abbrev pub reaches_of_reads : Network → Reads → ℕ → ℕ
 reaches_of_reads c r i = reach_on c (i % 2) (read_interval r (i / 2))
+
+-- the interval of an end whose reads have these reaches: 0 is a, 1 is b, 2 the gate
+abbrev pub interval_of_reaches : Network → (ℕ → ℕ) → ℕ → Interval
+interval_of_reaches c r p = record { low = bound_of c 0 (r (2 * p)); high = bound_of c 1 (r (2 * p + 1)) }
+
+-- reads of these reaches, as intervals
+abbrev pub reads_of_reaches : Network → (ℕ → ℕ) → Reads
+reads_of_reaches c r = record { a = interval_of_reaches c r 0; b = interval_of_reaches c r 1; g = interval_of_reaches c r 2 }

@@ -5,7 +5,7 @@ use Rattle.cvc_law.specs.declared.interval.Interval.{Interval}
 use Rattle.cvc_law.specs.declared.device.Device.{Device}
 use Rattle.cvc_law.specs.Network.{Network, devices, is_declared}
 use Rattle.cvc_law.specs.Conduction.{target}
-use Rattle.cvc_law.specs.Reach.{reach_on, bound_of, widest, width, is_declared_bound, declared_reach, declared_interval, device_at, target_place, gives, reach_reads}
+use Rattle.cvc_law.specs.Reach.{reach_on, bound_of, widest, width, is_declared_bound, declared_reach, declared_interval, device_at, target_place, reach_given, reach_reads}
 
 abbrev pub reaches : Network → List Interval → List ℕ
 reaches c [] = []
@@ -29,7 +29,7 @@ IsReachWithin f g = (b : ℕ) → slice_index f b ≤ slice_index g b
 
 -- each slot gives a net that isn't declared no more than it has
 abbrev pub IsReachClosedAt : Network → List ℕ → Device → Type 0
-IsReachClosedAt c f d = (k : ℕ) → k < 4 → is_declared c (target d k) ≡ false → gives c d k (reach_reads f d) ≤ slice_index f (target_place d k)
+IsReachClosedAt c f d = (k : ℕ) → k < 4 → is_declared c (target d k) ≡ false → reach_given c d k (reach_reads f d) ≤ slice_index f (target_place d k)
 
 abbrev pub IsReachClosed : Network → List ℕ → Type 0
 IsReachClosed c f = (i : ℕ) → i < devices c → IsReachClosedAt c f (device_at c i)

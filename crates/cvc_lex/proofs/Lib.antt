@@ -7,6 +7,7 @@ pub mod Standing
 pub mod LineEnds
 pub mod Readings
 pub mod Handing
+pub mod Skipping
 pub mod Finding
 pub mod Comments
 pub mod Tokened

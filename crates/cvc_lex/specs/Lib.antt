@@ -4,6 +4,7 @@ pub mod Lines
 pub mod Lexing
 pub mod Lined
 pub mod Comments
+pub mod Skips
 pub mod Stops
 pub mod Scanning
 pub mod Examples

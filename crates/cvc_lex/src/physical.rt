@@ -1,14 +1,18 @@
 //! The text of a physical line, and what the line is.
 ghost use Rattle.std.specs.Prelude.{◌≡◌, ◌+◌, ◌<◌, ◌≤◌, ◌==◌, IfSome, length, drop, not};
-ghost use Rattle.std.specs.List.{list_any, position_or_len, prefix_len};
+ghost use Rattle.std.specs.List.{list_all, list_any, position_or_len, prefix_len};
 ghost use Rattle.cvc_lex.specs.Bytes.{is_netlist as netlist_of, is_blank as blank_of, is_bad as bad_of, file_limit as limit_of};
 ghost use Rattle.cvc_lex.specs.Comments.{begins_comment as comment_in, card_comment as card_comment_in, row_comment as row_comment_in, IsShort};
 ghost use Rattle.cvc_lex.specs.Lined.{IsFirstLine};
 ghost use Rattle.cvc_lex.specs.Physical.{without_last as without_last_of, text_of as text_in, is_lone_dollar as lone_dollar_at, first_place, cut as cut_of, unindented, card_shape as shape_of_card, shape_of as shape_in};
+ghost use Rattle.cvc_lex.specs.Skips.{SkipsTo};
 
 use crate::shape::Shape;
 use cvc_base::FileKind;
 use memchr::memchr;
+
+// How many bytes a long scan looks at together.
+pub(crate) const BLOCK: usize = 16;
 
 // The length of the first physical line, with its LF, if it ends among these bytes.
 pub(crate) fn line_len(bytes: &[u8]) -> Option<usize>
@@ -44,7 +48,7 @@ pub(crate) fn file_limit(file: FileKind) -> usize
 pub(crate) fn is_blank(byte: u8) -> bool
     ensures { result ≡ blank_of byte }
 {
-    byte == b' ' || byte == b'\t'
+    (byte == b' ') | (byte == b'\t')
 }
 
 fn is_bad(byte: u8) -> bool
@@ -132,6 +136,29 @@ pub(crate) fn cut(file: FileKind, text: &[u8]) -> &[u8]
     }
 }
 
+// Whether all bytes of the block are blanks.
+#[inline]
+fn is_blanks(block: &[u8]) -> bool
+    ensures { result ≡ list_all blank_of block.now }
+{
+    let mut blanks = true;
+    for byte in block {
+        blanks &= is_blank(*byte);
+    }
+    blanks
+}
+
+// How many blanks stand in front, of whole blocks alone.
+fn blank_blocks(text: &[u8]) -> usize
+    ensures { SkipsTo blank_of text.now result }
+{
+    let mut i = 0;
+    while text.len() - i >= BLOCK && is_blanks(&text[i..i + BLOCK]) {
+        i += BLOCK;
+    }
+    i
+}
+
 // How many blanks stand in front.
 pub(crate) fn indent(text: &[u8]) -> usize
     ensures place { result ≡ prefix_len blank_of text.now }
@@ -140,6 +167,9 @@ pub(crate) fn indent(text: &[u8]) -> usize
     let mut i = 0;
     while i < text.len() && is_blank(text[i]) {
         i += 1;
+        if i == BLOCK {
+            i += blank_blocks(&text[i..]);
+        }
     }
     i
 }

@@ -1,28 +1,52 @@
 //! The tokens of a text.
 ghost use Rattle.std.specs.Prelude.{◌≡◌, ◌+◌, ◌-◌, ◌<◌, ◌≤◌, ◌∷◌, ◌++◌, [], ℕ, length, drop, slice_index, slice_range, not, false, IfOk, MatchOption};
-ghost use Rattle.std.specs.List.{list_any, prefix_len};
+ghost use Rattle.std.specs.List.{list_all, list_any, prefix_len};
 ghost use Rattle.cvc_lex.specs.Bytes.{is_alone as alone_in, is_word as word_in};
 ghost use Rattle.cvc_lex.specs.Physical.{is_long, tokens_from};
+ghost use Rattle.cvc_lex.specs.Skips.{SkipsTo};
 ghost use Rattle.cvc_lex.specs.Stops.{StopsLong};
 
-use crate::physical::{indent, is_blank, is_netlist};
+use crate::physical::{BLOCK, indent, is_blank, is_netlist};
 use cvc_base::{Cause, FileKind, Stop, Text, Token, Tokens};
 use std::alloc::Global;
 
 // The most bytes of a token.
 const TOKEN_LIMIT: usize = 1024;
 
-// Whether the byte is a token of its own.
+// Whether the byte is a token of its own. The tests of bytes are without a branch, so that loops look at many bytes together.
 fn is_alone(file: FileKind, byte: u8) -> bool
     ensures { result ≡ alone_in file byte }
 {
-    is_netlist(file) && byte == b'='
+    is_netlist(file) & (byte == b'=')
 }
 
 fn is_word(file: FileKind, byte: u8) -> bool
     ensures { result ≡ word_in file byte }
 {
-    !is_blank(byte) && !is_alone(file, byte)
+    !is_blank(byte) & !is_alone(file, byte)
+}
+
+// Whether all bytes of the block are bytes of words.
+#[inline]
+fn is_words(file: FileKind, block: &[u8]) -> bool
+    ensures { result ≡ list_all (word_in file) block.now }
+{
+    let mut words = true;
+    for byte in block {
+        words &= is_word(file, *byte);
+    }
+    words
+}
+
+// How many bytes of words stand in front, of whole blocks alone.
+fn word_blocks(file: FileKind, text: &[u8]) -> usize
+    ensures { SkipsTo (word_in file) text.now result }
+{
+    let mut i = 0;
+    while text.len() - i >= BLOCK && is_words(file, &text[i..i + BLOCK]) {
+        i += BLOCK;
+    }
+    i
 }
 
 // How many bytes of words stand in front.
@@ -33,6 +57,9 @@ fn word_len(file: FileKind, text: &[u8]) -> usize
     let mut i = 0;
     while i < text.len() && is_word(file, text[i]) {
         i += 1;
+        if i == BLOCK {
+            i += word_blocks(file, &text[i..]);
+        }
     }
     i
 }

@@ -4,9 +4,13 @@
 #[cfg(test)]
 mod cards;
 #[cfg(test)]
+mod crew;
+#[cfg(test)]
 mod fields;
 #[cfg(test)]
 mod lines;
+#[cfg(test)]
+mod loads;
 #[cfg(test)]
 mod netlists;
 #[cfg(test)]

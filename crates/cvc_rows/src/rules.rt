@@ -1,4 +1,4 @@
 //! Findings of circuits whose settled families and findings are known from outside.
-mod build;
+pub(crate) mod build;
 mod parallel;
 mod rows;

@@ -1,3 +1,14 @@
+pub mod Passing
+pub mod Waiting
+pub mod Feeding
+pub mod Shelving
+pub mod Limits
+pub mod Loading
+pub mod Netlists
+pub mod Steps
+pub mod Binding
+pub mod Contents
+pub mod Runs
 pub mod Refusing
 pub mod Ending
 pub mod Answering

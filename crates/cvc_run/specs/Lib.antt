@@ -3,6 +3,9 @@ pub mod Said
 pub mod Due
 pub mod Shelves
 pub mod Stops
+pub mod Loads
+pub mod Reader
+pub mod Rests
 pub mod Outside
 pub mod Outcome
 pub mod Judged

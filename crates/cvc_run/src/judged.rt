@@ -1,5 +1,5 @@
 //! A circuit with all that is known of it: its least family, and where the rules hold there.
-ghost use Rattle.std.specs.Prelude.{◌≡◌, ◌++◌, IfOk, OnOk, length};
+ghost use Rattle.std.specs.Prelude.{◌≡◌, ◌≤◌, ◌++◌, IfOk, OnOk, length};
 ghost use Rattle.cvc_law.specs.Network.{nets};
 ghost use Rattle.cvc_law.specs.Rules.{findings_of};
 ghost use Rattle.cvc_run.specs.Judged.{IsBoundFlat, IsJudged};
@@ -7,11 +7,13 @@ ghost use Rattle.cvc_run.specs.Judged.{IsBoundFlat, IsJudged};
 use crate::bound::Bound;
 use cvc_base::{Finding, Findings, NoMemory};
 use cvc_bias::{list_bias, par_list_bias};
+use cvc_crew::{Gate, settle};
 use cvc_law::{Circuit, Family};
 use cvc_leak::laws::both_lists_are_all_findings;
 use cvc_leak::{list_leak, par_list_leak};
 use cvc_serial::settle_serial;
 use std::alloc::Global;
+use std::sync::Wait;
 use std::thread::Threads;
 
 /// A bound circuit, its least family, and all findings.
@@ -85,17 +87,21 @@ pub(crate) fn judge_serial(alloc: Global, bound: Bound) -> Result<Judged, NoMemo
     })
 }
 
-/// Judges a circuit, and lists the findings by many threads.
-pub(crate) fn judge(
-    rt: &(impl Threads + Sync),
+/// Judges a circuit with 1 to 64 workers, and lists the findings by many threads. It waits for its workers.
+pub(crate) fn judge<R: Threads + Wait + Sync, G: Gate>(
+    rt: &R,
     alloc: Global,
     bound: Bound,
+    workers: u32,
+    gate: &G,
 ) -> Result<Judged, NoMemory>
-    requires { IsBoundFlat bound }
+    requires bound { IsBoundFlat bound }
+    requires some { 1 ≤ workers }
+    requires few { workers ≤ 64 }
     ensures kept { IfOk result (λ j. j.bound ≡ bound) }
     ensures judged { IfOk result IsJudged }
 {
-    let family = settle_serial(alloc, &bound.circuit)?;
+    let family = settle(rt, alloc, &bound.circuit, workers, gate)?;
     let findings = par_list(rt, alloc, &bound.circuit, &family)?;
     Ok(Judged {
         bound,

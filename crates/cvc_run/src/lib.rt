@@ -5,10 +5,15 @@
 
 mod bound;
 mod judged;
+mod load;
+mod netlist;
 mod run;
+mod stages;
 mod status;
 mod stop;
 mod telling;
 
+pub use load::{LoadFault, load_file};
 pub use run::{check, check_serial, survey};
+pub use stages::{Design, load_design};
 pub use status::Status;

@@ -14,7 +14,7 @@ use Rattle.cvc_law.specs.Network.{Network, nets, devices, fixed_at, is_declared,
 use Rattle.cvc_law.specs.Conduction.{target}
 use Rattle.cvc_law.specs.Family.{IsInRange, IsFamily}
 use Rattle.cvc_law.specs.Least.{reads_of, IsSlotClosed, IsLeast}
-use Rattle.cvc_law.specs.Reach.{declared_interval, device_at, width, widest, target_place, gives, reach_reads}
+use Rattle.cvc_law.specs.Reach.{declared_interval, device_at, width, widest, target_place, reach_given, reach_reads}
 use Rattle.cvc_law.specs.ReachLeast.{reaches, IsReachFamily, IsReachWithin, IsReachClosedAt, IsReachClosed}
 use Rattle.cvc_law.proofs.ReachFamilies.{family_reaches, opening_within, length_reaches}
 use Rattle.cvc_law.proofs.ReachAgree.{least_from_reaches}
@@ -83,7 +83,7 @@ module _ (c : Network) (f : List Interval) (marks marks' : List Bool) (i k : ℕ
   place = target_place device k
 
   abbrev now : ℕ
-  now = gives c device k (reach_reads (reaches c f) device)
+  now = reach_given c device k (reach_reads (reaches c f) device)
 
   step : Widens c f device k w
   step = let sound = device_sound c h.circuit i inside in
@@ -95,8 +95,8 @@ module _ (c : Network) (f : List Interval) (marks marks' : List Bool) (i k : ℕ
   -- it stays within every closed family
   stays_within : (g : List ℕ) → IsReachFamily c g → IsReachClosed c g → IsReachWithin (reaches c (widened_by f w)) g
   stays_within g family closed = subst (λ (r : List ℕ). IsReachWithin r g) (sym step.reaches_are)
-      (let less : now ≤ gives c device k (reach_reads g device) = gives_within c (reaches c f) g device k (h.within g family closed) in
-      let most : gives c device k (reach_reads g device) ≤ slice_index g place = closed i inside k lt wide.free in
+      (let less : now ≤ reach_given c device k (reach_reads g device) = gives_within c (reaches c f) g device k (h.within g family closed) in
+      let most : reach_given c device k (reach_reads g device) ≤ slice_index g place = closed i inside k lt wide.free in
       set_within (reaches c f) place now g place_within (h.within g family closed) (omega arith))
 
   -- the device reads the net itself, and waits again
@@ -109,7 +109,7 @@ module _ (c : Network) (f : List Interval) (marks marks' : List Bool) (i k : ℕ
         ap (λ (n : ℕ). touches n (device_at c j)) net ∙ reads_not c w.net.0 j marks marks' fan within is_fan pushed free
 
     still_tried : (j m : ℕ) → j < devices c → m < 4 → waits marks' j ≡ false → IsTried c (widened_by f w) (device_at c j) m
-    still_tried j m within four free = subst (λ (r : List ℕ). is_declared c (target (device_at c j) m) ≡ false → gives c (device_at c j) m (reach_reads r (device_at c j)) ≤ slice_index r (target_place (device_at c j) m)) (sym step.reaches_are)
+    still_tried j m within four free = subst (λ (r : List ℕ). is_declared c (target (device_at c j) m) ≡ false → reach_given c (device_at c j) m (reach_reads r (device_at c j)) ≤ slice_index r (target_place (device_at c j) m)) (sym step.reaches_are)
         (let off : touches (place / 2) (device_at c j) ≡ false = apart_from j within free in
         let other : j ≡ i → ⊥ = λ same. (let half : target device k ≡ place / 2 = omega arith in let on : touches (place / 2) (device_at c j) ≡ true = ap (λ (n : ℕ). touches (place / 2) (device_at c n)) same ∙ (ap (λ (n : ℕ). touches n device) (sym half) ∙ reads_it) in let no : true ≡ false = sym on ∙ off in cc) in
         let before : IsReachClosedAt c (reaches c f) (device_at c j) = λ l less undeclared. h.closed j l within less (unmarked_before (waits marks j) (waits marks' j) (pushed.kept j) free) (λ same. absurd (other same)) undeclared in
@@ -159,7 +159,7 @@ family_opened c circuit = record {
 
 -- a device that hands no voltage on has nothing to try
 idle_tried : (c : Network) (f : List Interval) (d : Device) (k : ℕ) → conducts d.kind ≡ false → IsTried c f d k
-idle_tried c f d k idle free = elim (cases_lt 0 (gives c d k (reach_reads (reaches c f) d))) [
+idle_tried c f d k idle free = elim (cases_lt 0 (reach_given c d k (reach_reads (reaches c f) d))) [
   | inl some ↦ absurd (let reads_it : touches (target d k) d ≡ true = touches_given c d k (reach_reads (reaches c f) d) some in
       let off : touches (target d k) d ≡ false = ap (λ (b : Bool). b && ((end_a d == target d k) || (end_b d == target d k) || (is_mos d.kind && (gate d == target d k)))) idle in let no : true ≡ false = sym reads_it ∙ off in cc)
   | inr none ↦ omega arith

@@ -11,7 +11,7 @@ use Rattle.cvc_law.specs.Network.{Network, is_declared}
 use Rattle.cvc_law.specs.Conduction.{given, target}
 use Rattle.cvc_law.specs.Family.{unknown, interval_at, IsInRange, IsFamily}
 use Rattle.cvc_law.specs.Least.{reads_of, Covers, IsSlotClosed}
-use Rattle.cvc_law.specs.Reach.{reach_of, reach_on, target_place, gives, reach_reads}
+use Rattle.cvc_law.specs.Reach.{reach_of, reach_on, target_place, reach_given, reach_reads}
 use Rattle.cvc_law.specs.ReachLeast.{reaches}
 use Rattle.cvc_law.proofs.ReachConduct.{given_in_range, reaches_covered, covers_reached}
 use Rattle.cvc_law.proofs.ReachFamilies.{reach_at, reaches-set_low, reaches-set_high}
@@ -28,7 +28,7 @@ module _ (c : Network) (f : List Interval) (d : Device) (k : ℕ) where
       reach_at c f (target_place d k) ∙ (ap (λ (s : ℕ). reach_on c s (interval_at f (target_place d k / 2))) side ∙ ap (λ (n : ℕ). reach_on c (k % 2) (interval_at f n)) net)
 
   pub tried_from_closed : k < 4 → pos 0 ≤ℤ d.volts.drop → IsFamily c f → IsSlotClosed c f d k (reads_of f d) → IsTried c f d k
-  tried_from_closed lt drop family closed free = let as_table : gives c d k (reach_reads (reaches c f) d) ≡ reach_of c (k % 2) (given c d k (reads_of f d)) = gives_on_family c f d k lt drop family in
+  tried_from_closed lt drop family closed free = let as_table : reach_given c d k (reach_reads (reaches c f) d) ≡ reach_of c (k % 2) (given c d k (reads_of f d)) = gives_on_family c f d k lt drop family in
       let there : slice_index (reaches c f) (target_place d k) ≡ reach_on c (k % 2) (interval_at f (target d k)) = target_at in
       let covered : reach_of c (k % 2) (given c d k (reads_of f d)) ≤ reach_on c (k % 2) (interval_at f (target d k)) = reaches_covered c (interval_at f (target d k)) k (given c d k (reads_of f d)) lt (λ v is. closed v free is) in omega arith
 
@@ -80,20 +80,20 @@ widened_by f w = slice_set f w.net.0 w.interval
 
 pub record Widens (c : Network) (f : List Interval) (d : Device) (k : ℕ) (w : Widening) : Type 0 where
   pub family : IsFamily c (widened_by f w)
-  pub reaches_are : reaches c (widened_by f w) ≡ slice_set (reaches c f) (target_place d k) (gives c d k (reach_reads (reaches c f) d))
-  pub wider : slice_index (reaches c f) (target_place d k) < gives c d k (reach_reads (reaches c f) d)
+  pub reaches_are : reaches c (widened_by f w) ≡ slice_set (reaches c f) (target_place d k) (reach_given c d k (reach_reads (reaches c f) d))
+  pub wider : slice_index (reaches c f) (target_place d k) < reach_given c d k (reach_reads (reaches c f) d)
 
 pub widens : (c : Network) (f : List Interval) (d : Device) (k : ℕ) (w : Widening) → k < 4 → pos 0 ≤ℤ d.volts.drop → target d k < length f → IsFamily c f → IsWidening c f d k w → Widens c f d k w
 widens c f d k w lt drop inside family h =
-    let as_table : gives c d k (reach_reads (reaches c f) d) ≡ reach_of c (k % 2) (given c d k (reads_of f d)) = gives_on_family c f d k lt drop family in
-    let reach : gives c d k (reach_reads (reaches c f) d) ≡ reach_of c (k % 2) (Some h.value) = as_table ∙ ap (reach_of c (k % 2)) h.is_given in
+    let as_table : reach_given c d k (reach_reads (reaches c f) d) ≡ reach_of c (k % 2) (given c d k (reads_of f d)) = gives_on_family c f d k lt drop family in
+    let reach : reach_given c d k (reach_reads (reaches c f) d) ≡ reach_of c (k % 2) (Some h.value) = as_table ∙ ap (reach_of c (k % 2)) h.is_given in
     let range : IsInRange c h.value = given_in_range c d k (reads_of f d) h.value h.is_given in
     let there : slice_index (reaches c f) (target_place d k) ≡ reach_on c (k % 2) (interval_at f (target d k)) = target_at c f d k in
     let is : widened_by f w ≡ slice_set f (target d k) (with_bound (interval_at f (target d k)) k h.value) = ap (λ (n : ℕ). slice_set f n w.interval) h.net ∙ ap (slice_set f (target d k)) h.interval in
     record {
       family = subst (IsFamily c) (sym is) (family_set c f (target d k) k h.value inside h.free range family);
       reaches_are = ap (reaches c) is ∙ (reaches_set c f (target d k) k h.value lt inside ∙ ap (slice_set (reaches c f) (target_place d k)) (sym reach));
-      wider = elim (cases_order (slice_index (reaches c f) (target_place d k)) (gives c d k (reach_reads (reaches c f) d))) [
+      wider = elim (cases_order (slice_index (reaches c f) (target_place d k)) (reach_given c d k (reach_reads (reaches c f) d))) [
         | inl same ↦ absurd (h.not_covered (covers_reached c (interval_at f (target d k)) k h.value lt range (omega arith)))
         | inr (inl less) ↦ less
         | inr (inr more) ↦ absurd (h.not_covered (covers_reached c (interval_at f (target d k)) k h.value lt range (omega arith)))

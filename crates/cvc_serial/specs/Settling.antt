@@ -6,13 +6,13 @@ use Rattle.cvc_law.specs.declared.device.Device.{Device}
 use Rattle.cvc_law.specs.Network.{Network, devices, is_declared, conducts, IsCircuit}
 use Rattle.cvc_law.specs.Conduction.{target}
 use Rattle.cvc_law.specs.Family.{IsFamily}
-use Rattle.cvc_law.specs.Reach.{device_at, target_place, gives, reach_reads}
+use Rattle.cvc_law.specs.Reach.{device_at, target_place, reach_given, reach_reads}
 use Rattle.cvc_law.specs.ReachLeast.{reaches, IsReachFamily, IsReachClosed, IsReachWithin}
 use Rattle.cvc_serial.specs.Queue.{waits}
 
 -- the slot gives no undeclared net more than the net has
 abbrev pub IsTried : Network → List Interval → Device → ℕ → Type 0
-IsTried c f d k = is_declared c (target d k) ≡ false → gives c d k (reach_reads (reaches c f) d) ≤ slice_index (reaches c f) (target_place d k)
+IsTried c f d k = is_declared c (target d k) ≡ false → reach_given c d k (reach_reads (reaches c f) d) ≤ slice_index (reaches c f) (target_place d k)
 
 -- each device that can hand a voltage on waits
 pub record AreConductingWaiting (c : Network) (marks : List Bool) : Type 0 where

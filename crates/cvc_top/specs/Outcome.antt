@@ -1,6 +1,6 @@
 -- The outcome of the words of the command line. Refused words have their status and their line, and read no file. Each command says how it ends,
 -- which failures of the shelf can be its own, and how accepted input is answered. A further command is a further line in each of these definitions.
-use Rattle.std.specs.Prelude.{◌≡◌, ℕ, List, Option, Result, Ok, Err}
+use Rattle.std.specs.Prelude.{◌≡◌, Option, Result, Ok, Err}
 use Rattle.cvc_io.specs.Files.{Files, Counts}
 use Rattle.cvc_report.specs.Refusals.{word_refusal}
 use Rattle.cvc_run.specs.Due.{DueFailed, job_readings}

@@ -9,6 +9,7 @@ ghost use Rattle.cvc_words.specs.Command.{IsWithin, command_of};
 ghost use Rattle.cvc_words.specs.Faults.{word_of};
 
 use cvc_base::Texts;
+use cvc_crew::NoGate;
 use cvc_io::{Shelf, Sink, WriteFailed};
 use cvc_report::write_word_refusal;
 use cvc_run::{Status, check, check_serial, survey};
@@ -45,13 +46,13 @@ fn run_command<R: Threads + Wait + Sync, S: Shelf, K: Sink>(
     ensures answered { CommandIsAnswered (S.files shelf.old) command.now (CommandFailed (S.files shelf.old) command.now (S.faults shelf.old) (S.faults shelf.new)) (taken (K.written sink.old) (K.written sink.new) (K.faults sink.old) (K.faults sink.new)) result }
 {
     match command {
-        Command::Check(job) => check(rt, alloc, job, shelf, sink),
+        Command::Check(job) => check(rt, alloc, job, shelf, sink, &NoGate),
         Command::Serial(job) => check_serial(alloc, job, shelf, sink),
         Command::Gen {
             seed,
             size,
             workers,
-        } => survey(rt, alloc, *seed, *size, *workers, sink),
+        } => survey(rt, alloc, *seed, *size, *workers, sink, &NoGate),
     }
 }
 

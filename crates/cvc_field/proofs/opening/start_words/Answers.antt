@@ -1,5 +1,4 @@
 use Rattle.std.proofs.Common.{◌<◌, length, arith, ap, ◌∙◌}
-use Rattle.cvc_law.specs.Reach.{bound_on, declared_interval}
 use Rattle.cvc_law.specs.ReachWord.{stored}
 use Rattle.cvc_field.proofs.Opens.{row_pushed}
 use Rattle.cvc_field.proofs.opening.start_words.Goals as goal

@@ -1,7 +1,6 @@
-use Rattle.std.proofs.Common.{ℕ, ◌≡◌, ◌+◌, ◌*◌, ◌%◌, ◌<◌, arith, subst, ◌∙◌, slice_index}
+use Rattle.std.proofs.Common.{◌+◌, ◌%◌, arith, subst, ◌∙◌}
 use Rattle.std.specs.Slots.{slots_items}
 use Rattle.cvc_field.specs.Words.{IsStoredWord}
-use Rattle.cvc_field.specs.Seats.{side_number}
 use Rattle.cvc_field.proofs.Ending.{elem_index, told_bound, side_few}
 use Rattle.cvc_field.proofs.closed.Closed.bound.Goals as goal
 

@@ -1,7 +1,6 @@
-use Rattle.std.proofs.Common.{◌+◌, Bool, ap, ◌∙◌, sym, subst, ◌≡◌, true, false, Some, None, ℤ, w64, to_z, of_z}
+use Rattle.std.proofs.Common.{◌+◌, Bool, ap, ◌∙◌, sym, subst, ◌≡◌, Some, None, ℤ}
 use Rattle.std.specs.Prelude.{is_some, Option, if◌then◌else◌}
 use Rattle.cvc_law.specs.declared.interval.Fixed.{Fixed}
-use Rattle.cvc_law.specs.Network.{is_declared}
 use Rattle.cvc_law.specs.Conduction.{given}
 use Rattle.cvc_law.specs.Reach.{device_at}
 use Rattle.cvc_field.specs.Runs.{IsGiving, MayGive, debt_from}
@@ -27,7 +26,7 @@ returns-in_default-clause-goes c = notes_nothing c.args.seat.now.me.0 c.args.sea
 pub widen-requires-clause-may : goal.widen-requires-clause-may
 widen-requires-clause-may c = let n = c.args.self.now.circuit.now in
     let is : given n (device_at n c.args.d.0) c.args.slot c.args.reads.now ≡ Some c.in-Some.value = sym c.gives.ensures ∙ c.in-Some.is in
-    subst (λ (z : ℤ). MayGive n c.args.d c.args.slot z c.args.seat.now.me.0.actor) (sym (value_back c.in-Some.value (given_million n c.in_million.ensures (device_at n c.args.d.0) c.args.slot c.args.reads.now c.in-Some.value is)))
+    subst (λ (z : ℤ). MayGive n c.args.d c.args.slot z c.args.seat.now.me.0.actor) (sym (value_back c.in-Some.value (given_million n c.floor-floor.ensures.in_million (device_at n c.args.d.0) c.args.slot c.args.reads.now c.in-Some.value is)))
     (may_give n c.args.d c.args.reads.now c.args.slot c.target-net.result.0 c.in-Some.value c.args.spare c.args.seat.now.me.0.actor c.target-net.ensures.net (ap (λ (o : Option Fixed). is_some o) (sym c.fixed.ensures) ∙ (sym c.is_some.ensures ∙ c.if-is_some.false)) is c.requires.giving)
 
 -- the slot was given

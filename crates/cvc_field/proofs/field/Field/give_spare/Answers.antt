@@ -1,6 +1,5 @@
-use Rattle.std.proofs.Common.{◌≡◌, ap, ◌∙◌, Bool, ℕ}
+use Rattle.std.proofs.Common.{ap, ◌∙◌, Bool}
 use Rattle.std.specs.Prelude.{if◌then◌else◌}
-use Rattle.cvc_core.specs.declared.actor.Actor.{Actor}
 use Rattle.cvc_core.specs.declared.actor.Actor.TheVariants.{Idle}
 use Rattle.cvc_field.proofs.Giving.{gave_back, may_give_back}
 use Rattle.cvc_field.proofs.field.Field.give_spare.Goals as goal

@@ -1,4 +1,4 @@
-use Rattle.std.proofs.Common.{arith, ◌<◌}
+use Rattle.std.proofs.Common.{arith}
 use Rattle.cvc_field.proofs.Turning.{scan_empty, scanned_run, turn_idle, turn_quiet, counted}
 use Rattle.cvc_field.proofs.field.Field.go_round.Goals as goal
 

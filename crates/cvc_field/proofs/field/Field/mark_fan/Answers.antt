@@ -1,7 +1,5 @@
-use Rattle.std.proofs.Common.{◌≡◌, ◌<◌, ℕ, length, slice_index, slice_index_or, ap, ◌∙◌}
+use Rattle.std.proofs.Common.{slice_index_or, ap, ◌∙◌}
 use Rattle.std.specs.Prelude.{Option}
-use Rattle.cvc_base.specs.declared.ids.DevId.{DevId}
-use Rattle.cvc_law.specs.Network.{fan_of}
 use Rattle.cvc_core.specs.declared.actor.Debt.{Debt}
 use Rattle.cvc_core.specs.declared.actor.Actor.TheVariants.{Running}
 use Rattle.cvc_core.specs.State.{run_of}

@@ -8,7 +8,7 @@ use Rattle.cvc_field.proofs.field.Field.new.Goals as goal
 
 pub of_words-requires : goal.of_words-requires
 of_words-requires c = let circuit = c.args.circuit.now in let e = c.as_slice.ensures.value ∙ c.in_ok-words.ensures.items in
-    subst (λ (z : Network × List ℕ). IsSoundField z.0 c.args.hands (opening z.1 [] (first_view z.0 c.args.hands))) (λ k. (sym c.of.ensures k, sym e k)) (opens circuit c.args.hands c.in_ok-words.ensures.circuit c.in_million.ensures c.requires.some c.requires.few)
+    subst (λ (z : Network × List ℕ). IsSoundField z.0 c.args.hands (opening z.1 [] (first_view z.0 c.args.hands))) (λ k. (sym c.of.ensures k, sym e k)) (opens circuit c.args.hands c.in_ok-words.ensures.circuit c.floor-floor.ensures.in_million c.requires.some c.requires.few)
 
 pub invariant_of-field : goal.invariant_of-field
 invariant_of-field c = let e = c.as_slice.ensures.value ∙ c.in_ok-words.ensures.items in let t = c.in_ok-table.ensures in let key = t.5 in record {

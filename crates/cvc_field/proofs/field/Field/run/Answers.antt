@@ -1,5 +1,5 @@
 use Rattle.std.proofs.Common.{[]}
-use Rattle.cvc_field.proofs.Going.{goes_nowhere, notes_nothing, notes_on, notes_few, goes_on}
+use Rattle.cvc_field.proofs.Going.{notes_nothing, notes_on, notes_few, goes_on}
 use Rattle.cvc_field.proofs.field.Field.run.Goals as goal
 
 pub loop-slot-init : goal.loop-slot-init

@@ -1,4 +1,4 @@
-use Rattle.std.proofs.Common.{◌≡◌, ◌≤◌, length}
+use Rattle.std.proofs.Common.{◌≤◌, length}
 use Rattle.std.specs.Prelude.{None}
 use Rattle.cvc_field.specs.Runs.{GoesNoting, IsGiving}
 use Rattle.cvc_field.specs.Seats.{IsSeatOf}

@@ -1,5 +1,4 @@
-use Rattle.std.proofs.Common.{◌≡◌, [], List, false}
-use Rattle.cvc_core.specs.declared.actor.Actor.TheVariants.{Idle}
+use Rattle.std.proofs.Common.{◌≡◌, List, false}
 use Rattle.cvc_field.specs.declared.view.Entry.{Entry}
 use Rattle.cvc_field.specs.Turns.{IsScan, grown, tray_of}
 use Rattle.cvc_field.specs.Seats.{IsSeatOf}

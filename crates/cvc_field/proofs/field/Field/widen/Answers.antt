@@ -1,7 +1,7 @@
-use Rattle.std.proofs.Common.{ap, ◌∙◌, sym, subst, ℕ, ◌+◌, ◌*◌, ◌≡◌, ◌%◌, ℤ, w64, to_z, of_z, Some, arith}
+use Rattle.std.proofs.Common.{ap, ◌∙◌, sym, subst, ℕ, ◌+◌, ◌*◌, ◌≡◌, ◌%◌, ℤ, Some, arith}
 use Rattle.std.specs.Prelude.{pos, neg_ℤ, ◌≤ℤ◌}
 use Rattle.cvc_law.specs.ReachWord.{stored}
-use Rattle.cvc_field.proofs.Giving.{in_range, value_back, widens, widens_at, widens_most, lowers_by, raises_by, widened_low, widened_high}
+use Rattle.cvc_field.proofs.Giving.{in_range, value_back, widens, widens_most, lowers_by, raises_by, widened_low, widened_high}
 use Rattle.cvc_field.proofs.field.Field.widen.Goals as goal
 use Rattle.cvc_field.proofs.field.Field.widen.Goals.{After-value_word-operand}
 

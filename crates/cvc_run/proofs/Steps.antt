@@ -1,0 +1,129 @@
+-- The steps of a run one after another: what they say together, and which of their files are due.
+use Rattle.std.proofs.Common.{◌≡◌, ℕ, ◌≤◌, Bool, true, List, [], ◌∷◌, length, map, Option, Some, None, Result, Ok, Err, refl, sym, ap, subst, ◌∙◌, inl, inr, ◌⊎◌}
+use Rattle.std.specs.Prelude.{IfOk, IfSome, is_ok}
+use Rattle.cvc_base.specs.Answers.{Gives}
+use Rattle.cvc_base.specs.declared.fault.Fault.{Fault}
+use Rattle.cvc_base.specs.declared.fault.Refusal.{Refusal}
+use Rattle.cvc_bind.specs.Bound.{circuit_of}
+use Rattle.cvc_flat.specs.Flat.{FlatList}
+use Rattle.cvc_io.specs.Causes.{Rose}
+use Rattle.cvc_io.specs.Files.{Counts, Files, NoneFalls, content}
+use Rattle.cvc_law.specs.Bound.{IsBound}
+use Rattle.cvc_law.specs.Network.{Network}
+use Rattle.cvc_model.specs.declared.row.ModelRow.{ModelRow}
+use Rattle.cvc_model.specs.Models.{models_of}
+use Rattle.cvc_power.specs.declared.row.PowerRow.{PowerRow}
+use Rattle.cvc_power.specs.Power.{power_of}
+use Rattle.cvc_run.specs.Due.{DueFailed, IsDue, Reading, design_readings, is_accepted, reading}
+use Rattle.cvc_run.specs.Loads.{Loads, LoadsAll, OfContent, as_load, as_step, fault_of_stop}
+use Rattle.cvc_run.specs.Said.{Parts, Refused as RefusedBy, Whole, bound_of, bound_with, design_of, flat_of_file, parts, step, then, whole}
+use Rattle.cvc_run.specs.Stops.{ReadOnlyWhere, Says}
+use Rattle.cvc_run.specs.declared.load.LoadFault.{LoadFault}
+use Rattle.cvc_run.specs.declared.status.Status.{Status}
+use Rattle.cvc_run.specs.declared.status.Status.TheVariants.{Netlist, Models, Power, Binding}
+use Rattle.cvc_run.specs.declared.stop.RunStop.{RunStop}
+use Rattle.cvc_run.specs.declared.stop.RunStop.TheVariants as stops
+use Rattle.cvc_run.proofs.Binding.{circuit_bound, pins_in_list}
+use Rattle.cvc_run.proofs.Loading.{loads_gives, ok_in_step, says_first, says_loads, says_next}
+use Rattle.cvc_run.proofs.Shelving.{rose_later}
+
+-- ## What one step says
+
+pub says_stopped : {A B : Type 0} (view : A → B) (status : Status) (r : Result A LoadFault) (w : Result B Fault) (x : RunStop) → Err x ≡ as_step status r → Loads view r w → Says view (Err x) (step status w)
+says_stopped view status r w x e h = subst (λ v. Says view v (step status w)) (sym e) (says_loads view status r w h)
+
+pub says_accepted : {A B : Type 0} (view : A → B) (status : Status) (r : Result A LoadFault) (w : Result B Fault) (x : A) → Ok x ≡ as_step status r → Loads view r w → step status w ≡ Ok (view x)
+says_accepted view status r w x e h = subst (λ v. Says view v (step status w)) (sym e) (says_loads view status r w h)
+
+step_said : {B : Type 0} (status : Status) (w : Result B Fault) (x : B) → step status w ≡ Ok x → w ≡ Ok x
+step_said status (Ok y) x e = cc
+step_said status (Err fault) x e = cc
+
+-- ## The netlist and the models
+
+module _ (top : Option (List ℕ)) (netlist models : List ℕ) {A : Type 0} (view : A → Parts) where
+  pub design_at_netlist : {F : Type 0} (flat : F → FlatList) (x : RunStop) → Says flat (Err x) (step Netlist (flat_of_file top netlist)) → Says view (Err x) (design_of top netlist models)
+  unfolding design_of
+  design_at_netlist flat x h = says_first flat view x (step Netlist (flat_of_file top netlist)) (λ flat. then (step Models (models_of models)) (λ rows. Ok (parts flat rows))) h
+
+  module _ (flat : FlatList) (read : step Netlist (flat_of_file top netlist) ≡ Ok flat) where
+    pub design_at_models : {M : Type 0} (rows : M → List ModelRow) (x : RunStop) → Says rows (Err x) (step Models (models_of models)) → Says view (Err x) (design_of top netlist models)
+    unfolding design_of
+    design_at_models rows x h =
+        says_next view (Err x) (step Netlist (flat_of_file top netlist)) flat (λ flat. then (step Models (models_of models)) (λ rows. Ok (parts flat rows))) read
+        (says_first rows view x (step Models (models_of models)) (λ rows. Ok (parts flat rows)) h)
+
+    pub design_read : (rows : List ModelRow) → step Models (models_of models) ≡ Ok rows → design_of top netlist models ≡ Ok (parts flat rows)
+    unfolding design_of
+    design_read rows e =
+        ap (λ r. then r (λ flat. then (step Models (models_of models)) (λ rows. Ok (parts flat rows)))) read
+        ∙ ap (λ r. then r (λ rows. Ok (parts flat rows))) e
+
+pub design_accepted : (top : Option (List ℕ)) (netlist models : List ℕ) (d : Parts) → design_of top netlist models ≡ Ok d → (flat_of_file top netlist ≡ Ok d.flat) × (models_of models ≡ Ok d.rows)
+unfolding design_of
+design_accepted top netlist models d e = by (flat_of_file top netlist) (models_of models) e
+  where
+    by : (f : Result FlatList Fault) (m : Result (List ModelRow) Fault) → then (step Netlist f) (λ flat. then (step Models m) (λ rows. Ok (parts flat rows))) ≡ Ok d → (f ≡ Ok d.flat) × (m ≡ Ok d.rows)
+    by (Ok flat) (Ok rows) e = let same : parts flat rows ≡ d = cc in (ap (λ p. Ok p.flat) same, ap (λ p. Ok p.rows) same)
+    by (Ok flat) (Err fault) e = cc
+    by (Err fault) m e = cc
+
+-- ## All together
+
+module _ (top : Option (List ℕ)) (netlist models power : List ℕ) {A : Type 0} (view : A → Whole) where
+  pub bound_at_design : {D : Type 0} (design : D → Parts) (x : RunStop) → Says design (Err x) (design_of top netlist models) → Says view (Err x) (bound_of top netlist models power)
+  unfolding bound_of
+  bound_at_design design x h = says_first design view x (design_of top netlist models) (λ d. then (step Power (power_of power)) (bound_with d)) h
+
+  module _ (d : Parts) (read : design_of top netlist models ≡ Ok d) where
+    pub bound_at_power : {P : Type 0} (rows : P → List PowerRow) (x : RunStop) → Says rows (Err x) (step Power (power_of power)) → Says view (Err x) (bound_of top netlist models power)
+    unfolding bound_of
+    bound_at_power rows x h =
+        says_next view (Err x) (design_of top netlist models) d (λ d. then (step Power (power_of power)) (bound_with d)) read
+        (says_first rows view x (step Power (power_of power)) (bound_with d) h)
+
+    pub bound_read : (rows : List PowerRow) → step Power (power_of power) ≡ Ok rows → (r : Result A RunStop) → Says view r (bound_with d rows) → Says view r (bound_of top netlist models power)
+    unfolding bound_of
+    bound_read rows e r h =
+        says_next view r (design_of top netlist models) d (λ d. then (step Power (power_of power)) (bound_with d)) read
+        (says_next view r (step Power (power_of power)) rows (bound_with d) e h)
+
+-- ## Files that are due
+
+pub due_here : (r : Reading) (later : List Reading) (before after : Counts) → Rose (before r.name) (after r.name) → DueFailed (r ∷ later) before after
+due_here r later before after rose = (r.name, inl refl, rose)
+
+pub due_behind : (r : Reading) (later : List Reading) (before after : Counts) → r.accepted ≡ true → DueFailed later before after → DueFailed (r ∷ later) before after
+due_behind r later before after accepted failed = (failed.0, inr (accepted, failed.1), failed.2)
+
+pub accepted_step : {A B : Type 0} (view : A → B) (status : Status) (r : Result A LoadFault) (said : List ℕ → Result B Fault) (files : Option Files) (name : List ℕ) (x : A) → Ok x ≡ as_step status r
+    → OfContent files name (λ bytes. Loads view r (said bytes)) → is_accepted said files name ≡ true
+accepted_step view status r said None name x e h = refl
+accepted_step view status r said (Some fs) name x e h = ap is_ok (step_said status (said (content fs name)) (view x) (says_accepted view status r (said (content fs name)) x e h))
+
+pub accepted_design : (top : Option (List ℕ)) (files : Option Files) (netlist models : List ℕ) (d : Parts) → IfSome files (λ fs. design_of top (content fs netlist) (content fs models) ≡ Ok d)
+    → (is_accepted (flat_of_file top) files netlist ≡ true) × (is_accepted models_of files models ≡ true)
+accepted_design top None netlist models d h = (refl, refl)
+accepted_design top (Some fs) netlist models d h = let both = design_accepted top (content fs netlist) (content fs models) d h in (ap is_ok both.0, ap is_ok both.1)
+
+-- ## Binding
+
+gives_ok : (w : Result Network Fault) (r : Result Network Refusal) → Gives (λ c. c) r w → IfOk r (λ c. w ≡ Ok c)
+gives_ok w (Ok c) h = h
+gives_ok w (Err refusal) h = tt
+
+module _ (f : FlatList) (rows : List ModelRow) (power : List PowerRow) (r : Result Network Refusal) (gives : Gives (λ c. c) r (circuit_of f rows power)) (l : Result Network LoadFault) (loaded : l ≡ as_load r) where
+  loads : Loads (λ c. c) l (circuit_of f rows power)
+  loads = subst (λ x. Loads (λ (c : Network). c) x (circuit_of f rows power)) (sym loaded) (loads_gives (λ (c : Network). c) r (circuit_of f rows power) gives)
+
+  module _ {A : Type 0} (view : A → Whole) where
+    pub bind_stopped : (x : RunStop) → Err x ≡ as_step Binding l → Says view (Err x) (bound_with (parts f rows) power)
+    unfolding bound_with
+    bind_stopped x e = says_first (λ (c : Network). c) view x (step Binding (circuit_of f rows power)) (λ c. Ok (whole f c)) (says_stopped (λ (c : Network). c) Binding l (circuit_of f rows power) x e loads)
+
+  pub bind_accepted : (c : Network) → Ok c ≡ as_step Binding l → bound_with (parts f rows) power ≡ Ok (whole f c)
+  unfolding bound_with
+  bind_accepted c e = ap (λ x. then x (λ c. Ok (whole f c))) (says_accepted (λ (c : Network). c) Binding l (circuit_of f rows power) c e loads)
+
+  pub bind_bound : (c : Network) → Ok c ≡ as_step Binding l → IsBound (length f.nets) (map pins_in_list f.devices) c
+  bind_bound c e = circuit_bound f rows power c (ok_in_step Binding r l c (λ c. circuit_of f rows power ≡ Ok c) loaded e (gives_ok (circuit_of f rows power) r gives))
