@@ -26,11 +26,11 @@ struct Hold {
 
 /// Two holds on two workers. It keeps how many turns each has begun, and how many holds ended because of what they waited for.
 #[derive(Drop)]
-struct TwoHolds {
+pub(super) struct TwoHolds {
     holds: [Hold; 2],
     first: AtomicU64,
     second: AtomicU64,
-    ended: AtomicU64,
+    pub(super) ended: AtomicU64,
 }
 
 impl TwoHolds {
@@ -75,7 +75,7 @@ impl Gate for TwoHolds {
 }
 
 /// A gate that lets worker 1 begin only once worker 0 has, and holds worker 0 before its first turn until worker 1 has made as many turns.
-fn until_every_device(turns: u64) -> TwoHolds {
+pub(super) fn until_every_device(turns: u64) -> TwoHolds {
     TwoHolds::new([
         Hold {
             worker: 1,

@@ -17,3 +17,13 @@ mod netlists;
 mod rules;
 #[cfg(test)]
 mod threads;
+#[cfg(test)]
+mod top_outside;
+#[cfg(test)]
+mod top_refusals;
+#[cfg(test)]
+mod top_reports;
+#[cfg(test)]
+mod top_runs;
+#[cfg(test)]
+mod top_workers;
