@@ -7,7 +7,6 @@ use Rattle.cvc_base.specs.declared.fault.Fault.{Fault}
 use Rattle.cvc_base.specs.declared.fault.FileKind.TheVariants.{Models as ModelsFile, Power as PowerFile}
 use Rattle.cvc_base.specs.declared.fault.Refusal.{Refusal}
 use Rattle.cvc_base.specs.declared.fault.Refusal.TheVariants as refusals
-use Rattle.cvc_bind.specs.Declared.{AreSpans}
 use Rattle.cvc_cdl.specs.declared.netlist.Netlist.{Netlist}
 use Rattle.cvc_cdl.specs.File.{file_of, then_with}
 use Rattle.cvc_flat.specs.Flat.{FlatList, flat_of, limits}
@@ -15,7 +14,7 @@ use Rattle.cvc_io.specs.Files.{Files}
 use Rattle.cvc_model.specs.declared.row.ModelRow.{ModelRow}
 use Rattle.cvc_model.specs.Models.{models_of, verdict as model_verdict}
 use Rattle.cvc_power.specs.declared.row.PowerRow.{PowerRow}
-use Rattle.cvc_power.specs.Power.{IsOrdered, power_of, verdict as power_verdict}
+use Rattle.cvc_power.specs.Power.{power_of, verdict as power_verdict}
 use Rattle.cvc_run.specs.Loads.{Loads, OfContent, as_load, up_to}
 use Rattle.cvc_run.specs.Said.{flat_of_file}
 use Rattle.cvc_run.specs.declared.load.LoadFault.{LoadFault}
@@ -63,14 +62,3 @@ module _ (files : Option Files) (name text : List ℕ) (read : OfContent files n
   power_loaded r ok at =
       of_weaker files name (λ bytes. text ≡ up_to 16777216 bytes) (λ bytes. Loads (λ rows. rows) (as_load r) (power_of bytes))
       (λ bytes e. subst (Loads (λ rows. rows) (as_load r)) (ap power_of e ∙ judged-up_to PowerFile power_verdict bytes) (loads_gives (λ rows. rows) r (power_of text) (gives_both (λ rows. rows) r (power_of text) ok at))) read
-
-pub are_spans : (rows : List PowerRow) → All IsOrdered rows → AreSpans rows
-are_spans rows h place row e = subst IsOrdered (get_or_from_slice_get rows place row row e) (h place row (by (slice_get_cases rows place).1))
-  where
-    by : (((x : PowerRow) × (place < length rows) × (slice_get rows place ≡ Some x) × (get_or rows place x ≡ x)) ⊎ ((length rows ≤ place) × (slice_get rows place ≡ None))) → place < length rows
-    by (inl k) = k.1
-    by (inr k) = let no : Some row ≡ None = sym e ∙ k.1 in absurd (cc)
-
-pub spans_read : (r : Result (List PowerRow) Refusal) → IfOk r (All IsOrdered) → IfOk r AreSpans
-spans_read (Ok rows) h = are_spans rows h
-spans_read (Err x) h = tt

@@ -6,7 +6,6 @@ pub mod Limits
 pub mod Loading
 pub mod Netlists
 pub mod Steps
-pub mod Binding
 pub mod Contents
 pub mod Runs
 pub mod Refusing

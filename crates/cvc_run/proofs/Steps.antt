@@ -8,7 +8,6 @@ use Rattle.cvc_bind.specs.Bound.{circuit_of}
 use Rattle.cvc_flat.specs.Flat.{FlatList}
 use Rattle.cvc_io.specs.Causes.{Rose}
 use Rattle.cvc_io.specs.Files.{Counts, Files, content}
-use Rattle.cvc_law.specs.Bound.{IsBound}
 use Rattle.cvc_law.specs.Network.{Network}
 use Rattle.cvc_model.specs.declared.row.ModelRow.{ModelRow}
 use Rattle.cvc_model.specs.Models.{models_of}
@@ -22,8 +21,7 @@ use Rattle.cvc_run.specs.declared.load.LoadFault.{LoadFault}
 use Rattle.cvc_run.specs.declared.status.Status.{Status}
 use Rattle.cvc_run.specs.declared.status.Status.TheVariants.{Netlist, Models, Power, Binding}
 use Rattle.cvc_run.specs.declared.stop.RunStop.{RunStop}
-use Rattle.cvc_run.proofs.Binding.{circuit_bound, pins_in_list}
-use Rattle.cvc_run.proofs.Loading.{loads_gives, ok_in_step, says_first, says_loads, says_next}
+use Rattle.cvc_run.proofs.Loading.{loads_gives, says_first, says_loads, says_next}
 
 -- ## What one step says
 
@@ -106,10 +104,6 @@ accepted_design top (Some fs) netlist models d h = let both = design_accepted to
 
 -- ## Binding
 
-gives_ok : (w : Result Network Fault) (r : Result Network Refusal) → Gives (λ c. c) r w → IfOk r (λ c. w ≡ Ok c)
-gives_ok w (Ok c) h = h
-gives_ok w (Err refusal) h = tt
-
 module _ (f : FlatList) (rows : List ModelRow) (power : List PowerRow) (r : Result Network Refusal) (gives : Gives (λ c. c) r (circuit_of f rows power)) (l : Result Network LoadFault) (loaded : l ≡ as_load r) where
   loads : Loads (λ c. c) l (circuit_of f rows power)
   loads = subst (λ x. Loads (λ (c : Network). c) x (circuit_of f rows power)) (sym loaded) (loads_gives (λ (c : Network). c) r (circuit_of f rows power) gives)
@@ -122,6 +116,3 @@ module _ (f : FlatList) (rows : List ModelRow) (power : List PowerRow) (r : Resu
   pub bind_accepted : (c : Network) → Ok c ≡ as_step Binding l → bound_with (parts f rows) power ≡ Ok (whole f c)
   unfolding bound_with
   bind_accepted c e = ap (λ x. then x (λ c. Ok (whole f c))) (says_accepted (λ (c : Network). c) Binding l (circuit_of f rows power) c e loads)
-
-  pub bind_bound : (c : Network) → Ok c ≡ as_step Binding l → IsBound (length f.nets) (map pins_in_list f.devices) c
-  bind_bound c e = circuit_bound f rows power c (ok_in_step Binding r l c (λ c. circuit_of f rows power ≡ Ok c) loaded e (gives_ok (circuit_of f rows power) r gives))

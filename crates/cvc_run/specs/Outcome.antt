@@ -1,6 +1,6 @@
 -- The outcome of a job and of a survey: a status and the text that is written. A refusal has its status and its line. What is accepted has the report,
 -- or the summary, of the least family, and the status tells whether there are findings.
-use Rattle.std.specs.Prelude.{◌≡◌, ℕ, List, [], ◌∷◌, Option, None, Bool, Result, Ok, Err, IfSome, ◌⊎◌}
+use Rattle.std.specs.Prelude.{◌≡◌, ℕ, List, [], ◌∷◌, Option, Some, None, Bool, Result, Ok, Err, IfSome, ◌⊎◌}
 use Rattle.cvc_base.specs.declared.finding.Finding.{Finding}
 use Rattle.cvc_io.specs.Files.{Files}
 use Rattle.cvc_gen.specs.Stages.{netlist_text, model_lines, power_lines, text_of}

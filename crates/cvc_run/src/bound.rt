@@ -1,9 +1,9 @@
 //! What the files of a run say together: the circuit, and the flat list that it is bound from.
-ghost use Rattle.std.specs.Prelude.{◌≡◌, None, IfOk, IfSome, length, map};
-ghost use Rattle.cvc_bind.specs.Declared.{AreSpans};
+ghost use Rattle.std.specs.Prelude.{◌≡◌, None, All, IfOk, IfSome, length, map};
 ghost use Rattle.cvc_cdl.specs.Builder.{named_top};
 ghost use Rattle.cvc_law.specs.Bound.{IsBound};
 ghost use Rattle.cvc_model.specs.Bindable.{AreBindable};
+ghost use Rattle.cvc_power.specs.Power.{IsOrdered};
 ghost use Rattle.cvc_run.specs.Due.{DueFailed, job_readings};
 ghost use Rattle.cvc_run.specs.Said.{bound_of, bound_of_job, bound_with, parts, whole};
 ghost use Rattle.cvc_run.specs.Shelves.{Leaves};
@@ -32,7 +32,7 @@ pub(crate) struct Bound {
 // The circuit of a design and power rows.
 fn bind_design(alloc: Global, design: Design, power: &Power) -> Result<Bound, RunStop>
     requires bindable { AreBindable design.models }
-    requires spans { AreSpans power.now }
+    requires ordered { All IsOrdered power.now }
     ensures said { Says (λ b. whole b.flat.list b.circuit) result (bound_with (parts design.flat.list design.models) power.now) }
     ensures unread { ReadOnlyWhere result ⊥ }
     ensures bound { IfOk result (λ b. IsBound (length b.flat.list.nets) (map (λ d. d.pins) b.flat.list.devices) b.circuit) }

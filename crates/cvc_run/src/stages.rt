@@ -1,6 +1,5 @@
 //! The steps of a run, from a file or a text to what it says.
-ghost use Rattle.std.specs.Prelude.{◌≡◌, None, IfOk, IfSome};
-ghost use Rattle.cvc_bind.specs.Declared.{AreSpans};
+ghost use Rattle.std.specs.Prelude.{◌≡◌, None, All, IfOk, IfSome};
 ghost use Rattle.cvc_cdl.specs.Builder.{named_top};
 ghost use Rattle.cvc_cdl.specs.WellFormed.{IsWellFormed};
 ghost use Rattle.cvc_base.specs.Answers.{Gives};
@@ -9,7 +8,7 @@ ghost use Rattle.cvc_io.specs.Causes.{Rose};
 ghost use Rattle.cvc_io.specs.Files.{content};
 ghost use Rattle.cvc_model.specs.Bindable.{AreBindable};
 ghost use Rattle.cvc_model.specs.Models.{models_of};
-ghost use Rattle.cvc_power.specs.Power.{power_of};
+ghost use Rattle.cvc_power.specs.Power.{IsOrdered, power_of};
 ghost use Rattle.cvc_run.specs.Due.{DueFailed, design_readings};
 ghost use Rattle.cvc_run.specs.Loads.{Loads, LoadsAll, OfContent, UnreadOnlyWhere};
 ghost use Rattle.cvc_run.specs.Said.{design_of, flat_of_file, parts, step};
@@ -79,7 +78,7 @@ fn load_models<S: Shelf>(alloc: Global, name: &Text, shelf: &mut S) -> Result<Mo
 fn load_power<S: Shelf>(alloc: Global, name: &Text, shelf: &mut S) -> Result<Power, LoadFault>
     requires { S.standing shelf.old ≡ None }
     ensures rows { OfContent (S.files shelf.old) name.now (λ content. Loads (λ rows. rows) result (power_of content)) }
-    ensures spans { IfOk result AreSpans }
+    ensures ordered { IfOk result (All IsOrdered) }
     ensures cause { UnreadOnlyWhere result (Rose (S.faults shelf.old name.now) (S.faults shelf.new name.now)) }
     ensures shelf { Leaves (S.standing shelf.new) (S.files shelf.old) (S.files shelf.new) (S.faults shelf.old) (S.faults shelf.new) }
 {
@@ -148,7 +147,7 @@ pub(crate) fn read_power_file<S: Shelf>(
 ) -> Result<Power, RunStop>
     requires { S.standing shelf.old ≡ None }
     ensures rows { OfContent (S.files shelf.old) name.now (λ content. Says (λ rows. rows) result (step statuses.Power (power_of content))) }
-    ensures spans { IfOk result AreSpans }
+    ensures ordered { IfOk result (All IsOrdered) }
     ensures cause { ReadOnlyWhere result (Rose (S.faults shelf.old name.now) (S.faults shelf.new name.now)) }
     ensures shelf { Leaves (S.standing shelf.new) (S.files shelf.old) (S.files shelf.new) (S.faults shelf.old) (S.faults shelf.new) }
 {

@@ -4,7 +4,6 @@ use Rattle.cvc_power.specs.Power.{IsOrdered, power_of}
 use Rattle.cvc_run.specs.declared.status.Status.TheVariants.{Power}
 use Rattle.cvc_run.proofs.Loading.{loads_both, ok_in_step}
 use Rattle.cvc_run.proofs.Runs.{parts_of, spans_of, whole_of}
-use Rattle.cvc_run.proofs.Contents.{are_spans}
 use Rattle.cvc_run.proofs.Steps.{bound_at_design, bound_at_power, bound_read, says_accepted, says_stopped}
 use Rattle.cvc_run.proofs.bound.bind_texts.Goals as goal
 
@@ -23,8 +22,8 @@ returns-in_err-power-clause-said c =
     (says_stopped spans_of Power c.as_load.result (power_of texts.power) c.in_err-power.field-0.0 c.in_err-power.ensures
     (loads_both spans_of c.read_power.result c.as_load.result (power_of texts.power) c.as_load.ensures (rw c.bytes.ensures at c.read_power.ensures.rows) (rw c.bytes.ensures at c.read_power.ensures.fault))))
 
-pub bind_design-requires-clause-spans : goal.bind_design-requires-clause-spans
-bind_design-requires-clause-spans c = are_spans c.in_ok-power.power (ok_in_step Power c.read_power.result c.as_load.result c.in_ok-power.power (All IsOrdered) c.as_load.ensures c.in_ok-power.ensures c.read_power.ensures.ordered)
+pub bind_design-requires-clause-ordered : goal.bind_design-requires-clause-ordered
+bind_design-requires-clause-ordered c = ok_in_step Power c.read_power.result c.as_load.result c.in_ok-power.power (All IsOrdered) c.as_load.ensures c.in_ok-power.ensures c.read_power.ensures.ordered
 
 pub returns-clause-said : goal.returns-clause-said
 returns-clause-said c =
