@@ -176,6 +176,3 @@ pub fn netlist_text(alloc: Allocator, netlist: &Netlist) -> Result<Text, NoMemor
     put_items(&mut out, netlist.main.items.as_slice())?;
     Text::of(alloc, &out)
 }
-
-#[cfg(test)]
-mod tests;

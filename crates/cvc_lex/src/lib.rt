@@ -93,6 +93,3 @@ impl Lexer {
         self.scanner.closed.pop_front()
     }
 }
-
-#[cfg(test)]
-mod tests;

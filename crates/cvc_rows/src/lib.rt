@@ -8,11 +8,15 @@ mod crew;
 #[cfg(test)]
 mod fields;
 #[cfg(test)]
+mod lexed;
+#[cfg(test)]
 mod lines;
 #[cfg(test)]
 mod loads;
 #[cfg(test)]
 mod netlists;
+#[cfg(test)]
+mod printed;
 #[cfg(test)]
 mod rules;
 #[cfg(test)]

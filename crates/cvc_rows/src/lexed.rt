@@ -1,7 +1,8 @@
 ghost use Rattle.std.specs.Prelude.{◌≡◌, false};
 
-use super::*;
-use cvc_base::{Cause, Fault, Place};
+use cvc_base::{Cause, Fault, FileKind, Place, Refusal};
+use cvc_lex::Lexer;
+use std::alloc::Global;
 use std::test::Fail;
 
 // Reads a file that comes in two pieces, to its end or to a refusal.

@@ -1,5 +1,5 @@
 use Rattle.std.proofs.Common.{◌≡◌, false}
-use Rattle.cvc_lex.proofs.tests.fed.Given as goal
+use Rattle.cvc_rows.proofs.lexed.fed.Given as goal
 
 abbrev pub invariant-loop : goal.invariant-loop
 invariant-loop l = l.lexer.finished ≡ false

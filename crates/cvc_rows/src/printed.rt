@@ -1,15 +1,15 @@
-use super::*;
-use crate::netlist::{Cells, Globals, Items};
-use cvc_base::{Pairs, Texts};
-use cvc_card::Letter;
+use cvc_base::{NoMemory, Pair, Pairs, Text, Texts};
+use cvc_card::{DeviceCard, InstCard, Letter, Ports};
+use cvc_cdl::{Cell, Cells, Global, Globals, Item, Items, Netlist, netlist_text};
+use std::alloc::Global as Heap;
 use std::test::Fail;
 
-fn text(alloc: Allocator, word: &str) -> Result<Text, NoMemory> {
+fn text(alloc: Heap, word: &str) -> Result<Text, NoMemory> {
     Text::of(alloc, word.as_bytes())
 }
 
 /// The words of a line, which blanks part.
-fn texts(alloc: Allocator, words: &str) -> Result<Texts, NoMemory> {
+fn texts(alloc: Heap, words: &str) -> Result<Texts, NoMemory> {
     let mut list = Texts::new(alloc);
     for word in words.split_whitespace() {
         list.push(text(alloc, word)?)?;
@@ -18,7 +18,7 @@ fn texts(alloc: Allocator, words: &str) -> Result<Texts, NoMemory> {
 }
 
 /// Pairs from names and values.
-fn pairs(alloc: Allocator, entries: &[(&str, &str)]) -> Result<Pairs, NoMemory> {
+fn pairs(alloc: Heap, entries: &[(&str, &str)]) -> Result<Pairs, NoMemory> {
     let mut list = Pairs::new(alloc);
     for (name, value) in entries {
         list.push(Pair {
@@ -30,7 +30,7 @@ fn pairs(alloc: Allocator, entries: &[(&str, &str)]) -> Result<Pairs, NoMemory> 
 }
 
 fn device(
-    alloc: Allocator,
+    alloc: Heap,
     letter: Letter,
     name: &str,
     nets: &str,
@@ -48,7 +48,7 @@ fn device(
 }
 
 fn instance(
-    alloc: Allocator,
+    alloc: Heap,
     name: &str,
     cell: &str,
     ports: Ports,
@@ -63,7 +63,7 @@ fn instance(
     }))
 }
 
-fn level(alloc: Allocator, name: &str, ports: &str, items: Items) -> Result<Cell, NoMemory> {
+fn level(alloc: Heap, name: &str, ports: &str, items: Items) -> Result<Cell, NoMemory> {
     Ok(Cell {
         name: text(alloc, name)?,
         ports: texts(alloc, ports)?,
@@ -73,7 +73,7 @@ fn level(alloc: Allocator, name: &str, ports: &str, items: Items) -> Result<Cell
     })
 }
 
-fn globals(alloc: Allocator, names: &str) -> Result<Globals, NoMemory> {
+fn globals(alloc: Heap, names: &str) -> Result<Globals, NoMemory> {
     let mut list = Globals::new(alloc);
     for word in names.split_whitespace() {
         list.push(Global {
@@ -85,13 +85,13 @@ fn globals(alloc: Allocator, names: &str) -> Result<Globals, NoMemory> {
 }
 
 /// One item.
-fn only(alloc: Allocator, item: Item) -> Result<Items, NoMemory> {
+fn only(alloc: Heap, item: Item) -> Result<Items, NoMemory> {
     let mut items = Items::new(alloc);
     items.push(item)?;
     Ok(items)
 }
 
-fn resistor(alloc: Allocator) -> Result<Netlist, NoMemory> {
+fn resistor(alloc: Heap) -> Result<Netlist, NoMemory> {
     let item = device(alloc, Letter::R, "R1", "a b", "R", &[("R", "100")])?;
     let items = only(alloc, item)?;
     Ok(Netlist {
@@ -111,7 +111,7 @@ fn printed_netlist(rt: HostRuntime) -> Result<(), Fail> {
     Ok(())
 }
 
-fn inverters(alloc: Allocator) -> Result<Cells, NoMemory> {
+fn inverters(alloc: Heap) -> Result<Cells, NoMemory> {
     let sizes = [("L", "w"), ("W", "2u")];
     let item = device(alloc, Letter::M, "MN", "Y A VSS VSS", "nch", &sizes)?;
     let mut cell = level(alloc, "INV", "A Y", only(alloc, item)?)?;
@@ -121,23 +121,23 @@ fn inverters(alloc: Allocator) -> Result<Cells, NoMemory> {
     Ok(cells)
 }
 
-fn by_order(alloc: Allocator) -> Result<Item, NoMemory> {
+fn by_order(alloc: Heap) -> Result<Item, NoMemory> {
     let nets = Ports::ByOrder(texts(alloc, "in out")?);
     instance(alloc, "X1", "INV", nets, &[("w", "3u")])
 }
 
-fn by_name(alloc: Allocator) -> Result<Item, NoMemory> {
+fn by_name(alloc: Heap) -> Result<Item, NoMemory> {
     let connections = Ports::ByName(pairs(alloc, &[("Y", "in"), ("A", "out")])?);
     instance(alloc, "X2", "INV", connections, &[("w", "4u")])
 }
 
-fn instances(alloc: Allocator) -> Result<Items, NoMemory> {
+fn instances(alloc: Heap) -> Result<Items, NoMemory> {
     let mut items = only(alloc, by_order(alloc)?)?;
     items.push(by_name(alloc)?)?;
     Ok(items)
 }
 
-fn all_parts(alloc: Allocator) -> Result<Netlist, NoMemory> {
+fn all_parts(alloc: Heap) -> Result<Netlist, NoMemory> {
     let items = instances(alloc)?;
     Ok(Netlist {
         globals: globals(alloc, "VDD VSS")?,
