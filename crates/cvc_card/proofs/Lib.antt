@@ -3,7 +3,6 @@ pub mod Fronts
 pub mod Plainness
 pub mod Gathering
 pub mod Finding
-pub mod Twice
 pub mod Assembling
 pub mod FormNames
 pub mod Formed

@@ -1,5 +1,6 @@
 -- The card of a line, or its first fault: that of the first token, then the leftmost of the tokens after it, then wrong connections
 -- by name, then something that is missing.
+pub use Rattle.cvc_names.specs.Names.{has_twice}
 use Rattle.std.specs.Prelude.{ℕ, ◌-◌, Bool, true, false, ◌==◌, ◌&&◌, ◌||◌, not, nat_lt, List, [], ◌∷◌, ◌++◌, length, take, drop, map, Option, Some, None, Result, Ok, Err, if◌then◌else◌, codes, unwrap_or}
 use Rattle.std.specs.Option.{option_map, option_to_list}
 use Rattle.std.specs.List.{filter, find, list_any, before_first, after_first}
@@ -99,11 +100,6 @@ nets_of plain = if list_any is_slash plain then before_first is_slash plain else
 
 unfoldable pub cell_of : List (List ℕ) → Option (List ℕ)
 cell_of plain = if list_any is_slash plain then first_of (after_first is_slash plain) else last_of plain
-
--- some text stands twice
-abbrev pub has_twice : List (List ℕ) → Bool
-has_twice [] = false
-has_twice (x ∷ xs) = list_any (bytes_eq x) xs || has_twice xs
 
 -- beside connections by name stand no nets and no plain token after `$PINS`, and no port is connected twice
 abbrev pub are_bad_pins : CardParts → Bool

@@ -13,8 +13,8 @@ use crate::item::NamedValue;
 use crate::parts::Parts;
 use crate::words::{first_token, is_slash};
 use cvc_base::{Cause, NoMemory, Stop, Text};
+use cvc_names::BorrowedNames;
 use std::alloc::Global;
-use std::collections::HashSet;
 
 /// The place of the first lone `/`, or the number of tokens.
 fn slash_place(plain: &[&[u8]]) -> usize
@@ -47,7 +47,7 @@ fn nets_and_cell<'p, 'a>(plain: &'p [&'a [u8]]) -> (&'p [&'a [u8]], Option<&'a [
 fn has_twice(alloc: Global, pairs: &[NamedValue<'_>]) -> Result<bool, NoMemory>
     ensures { IfOk result (λ twice. twice ≡ has_twice (map name_of pairs.now)) }
 {
-    let mut seen = HashSet::new(alloc);
+    let mut seen = BorrowedNames::new(alloc);
     for pair in pairs {
         if !seen.insert(pair.name)? {
             return Ok(true);

@@ -64,12 +64,12 @@ pub none_once : (seen : List (List ℕ)) → seen ≡ [] → AreOnce [] seen
 none_once seen e = record { same = e; once = refl }
 
 module _ {X : Type 0} (f : X → List ℕ) (xs : List X) (i : ℕ) where
-  module _ (lt : i < length xs) (seen : List (List ℕ)) (h : AreOnce (map f (take i xs)) seen) (x : X) (at : x ≡ get_or xs i x) (name : List ℕ) (same : name ≡ f x) (free : Bool) (is : free ≡ not (is_among seen name)) where
+  module _ (lt : i < length xs) (seen : List (List ℕ)) (h : AreOnce (map f (take i xs)) seen) (x d : X) (at : x ≡ get_or xs i d) (name : List ℕ) (same : name ≡ f x) (free : Bool) (is : free ≡ not (is_among seen name)) where
     tested : is_among seen name ≡ is_among (map f (take i xs)) (f x)
     tested = λ j. is_among (h.same j) (same j)
 
     more : map f (take (i + 1) xs) ≡ map f (take i xs) ++ f x ∷ []
-    more = map_more f xs i x lt ∙ ap (λ y. map f (take i xs) ++ f y ∷ []) (sym at)
+    more = map_more f xs i d lt ∙ ap (λ y. map f (take i xs) ++ f y ∷ []) (sym at)
 
     twice : has_twice (map f (take (i + 1) xs)) ≡ is_among seen name
     twice = ap has_twice more ∙ has_twice-push (map f (take i xs)) (f x) ∙ ap (λ b. b || is_among (map f (take i xs)) (f x)) h.once ∙ sym tested

@@ -1,8 +1,6 @@
 -- Verdicts of lines in a row: rows so far, and an answer for the lines that are left.
-use Rattle.std.proofs.Common.{◌≡◌, ℕ, ℤ, ◌≤ℤ◌, int_lt, All, cond, codes, ◌+◌, ◌<◌, ◌≤◌, Bool, true, false, not, ◌||◌, List, [], ◌∷◌, ◌++◌, map, length, Vec, Result, Ok, Err, refl, sym, ap, subst, ◌∙◌, append_assoc, append-nil, get_or, arith, true≢false}
+use Rattle.std.proofs.Common.{◌≡◌, ℕ, ℤ, ◌≤ℤ◌, int_lt, All, cond, codes, ◌+◌, ◌<◌, ◌≤◌, Bool, true, false, not, ◌||◌, List, [], ◌∷◌, ◌++◌, map, length, Result, Ok, Err, refl, sym, ap, subst, ◌∙◌, append_assoc, append-nil, get_or, arith, true≢false}
 use Rattle.std.proofs.lemmas.List.{map-append}
-use Rattle.std.specs.Bool.{OnTrue}
-use Rattle.std.specs.declared.alloc.Global.{Global}
 use Rattle.std.specs.List.{list_any}
 use Rattle.std.specs.Str.{bytes_eq, str_eq_ignore_ascii_case}
 use Rattle.std.proofs.lemmas.Int.{ints}
@@ -20,7 +18,7 @@ use Rattle.cvc_lex.proofs.JudgedRows.{judged_rows}
 use Rattle.cvc_power.specs.Rows.{text_of, voltage_of, exactly, between, span_of}
 use Rattle.cvc_power.specs.declared.row.PowerRow.{PowerRow}
 use Rattle.cvc_base.specs.Answers.{IfAt}
-use Rattle.cvc_power.specs.Power.{verdict, first_of, texts_of, name_of, row_with, row_of, is_taken, unless_taken, power_of, items_of, IsOrdered}
+use Rattle.cvc_power.specs.Power.{verdict, first_of, texts_of, name_of, row_with, row_of, is_taken, unless_taken, power_of, IsOrdered}
 
 -- what was read of a line is its row
 pub is_row : (line : Line) (span : Span) (first : Token) (name : List ℕ)
@@ -65,20 +63,6 @@ module _ (earlier : List Line) (line : Line) (row : PowerRow) (read : row_of lin
 
     pub names_kept : (more : List (List ℕ)) → more ≡ names ++ row.name ∷ [] → more ≡ map name_of (earlier ++ line ∷ [])
     names_kept more e = e ∙ (λ i. kept i ++ row_name i ∷ []) ∙ sym (map-append name_of earlier (line ∷ []))
-
--- a test of what each item holds
-pub list_any-map : {A B : Type 0} (p : B → Bool) (f : A → B) (xs : List A) → list_any p (map f xs) ≡ list_any (λ x. p (f x)) xs
-list_any-map p f [] = refl
-list_any-map p f (x ∷ xs) = ap (λ b. p (f x) || b) (list_any-map p f xs)
-
--- the test of the names, by the text that was copied
-pub tested_free : (names : List (Vec ℕ Global)) (name : Vec ℕ Global) (text : List ℕ) (free : Bool)
-    → free ≡ not (list_any (λ other. bytes_eq name.items other.items) names) → name.items ≡ text → free ≡ not (list_any (bytes_eq text) (map items_of names))
-tested_free names name text free e same = e ∙ ap not (sym (list_any-map (bytes_eq name.items) items_of names)) ∙ ap (λ t. not (list_any (bytes_eq t) (map items_of names))) same
-
-pub when : (b : Bool) (P : Type 0) → b ≡ true → OnTrue b P → P
-when true P e h = h
-when false P e h = absurd (true≢false (sym e))
 
 pub at-weaker : (r : Refusal) (P Q : Fault → Type 0) → ((fault : Fault) → P fault → Q fault) → IfAt {A = Unit {0}} (Err r) P → IfAt {A = Unit {0}} (Err r) Q
 at-weaker (At fault) P Q f h = f fault h

@@ -1,10 +1,9 @@
 -- The declared rows of a power file, or its first fault. Each logical line has a verdict: its row, or its first fault, where TwiceRow comes last and
 -- stands where an earlier line has the same name, byte by byte. A file has its rows where no line has a fault. Else its first fault is by line, and on one
 -- line a lexical fault goes first: so a row's fault is the first exactly where its line ends before the line of the first lexical fault.
-use Rattle.std.specs.Prelude.{ℕ, Bool, List, [], ◌∷◌, map, Result, Ok, Err, Vec, ◌≤ℤ◌, if◌then◌else◌}
+use Rattle.std.specs.Prelude.{ℕ, Bool, List, [], ◌∷◌, map, Result, Ok, Err, ◌≤ℤ◌, if◌then◌else◌}
 use Rattle.std.specs.List.{list_any}
 use Rattle.std.specs.Str.{bytes_eq}
-use Rattle.std.specs.declared.alloc.Global.{Global}
 use Rattle.cvc_base.specs.declared.cause.Cause.{Cause}
 use Rattle.cvc_base.specs.declared.cause.Cause.TheVariants.{TwiceRow}
 use Rattle.cvc_base.specs.declared.fault.Fault.{Fault}
@@ -54,6 +53,3 @@ power_of bytes = judged Power verdict bytes
 -- what a row declares is a span
 abbrev pub IsOrdered : PowerRow → Type 0
 IsOrdered row = row.low ≤ℤ row.high
-
-abbrev pub items_of : Vec ℕ Global → List ℕ
-items_of v = v.items

@@ -1,16 +1,15 @@
 //! Whole power files.
-ghost use Rattle.std.specs.Prelude.{◌≡◌, ◌<◌, ◌^◌, [], ◌∷◌, ◌++◌, All, Ok, Err, IfOk, length, map, not};
+ghost use Rattle.std.specs.Prelude.{◌≡◌, ◌<◌, ◌^◌, [], ◌∷◌, ◌++◌, All, Ok, Err, IfOk, length, not};
 ghost use Rattle.std.specs.Bool.{OnTrue};
-ghost use Rattle.std.specs.List.{list_any};
-ghost use Rattle.std.specs.Str.{bytes_eq};
 ghost use Rattle.cvc_base.specs.Answers.{IfAt};
+ghost use Rattle.cvc_names.specs.Names.{is_among};
 ghost use Rattle.cvc_lex.specs.Judged.{said};
-ghost use Rattle.cvc_power.specs.Power.{IsOrdered, items_of, power_of, row_of, verdict};
+ghost use Rattle.cvc_power.specs.Power.{IsOrdered, power_of, row_of, verdict};
 
 use crate::row::{PowerRow, span_of};
 use cvc_base::{Cause, Fault, FileKind, ItemList, Line, NoMemory, Refusal, Text};
 use cvc_lex::Lexer;
-use indexmap::IndexSet;
+use cvc_names::Names;
 use std::alloc::Global;
 
 /// The rows of a power file, in order. No two have one name.
@@ -35,18 +34,12 @@ fn read_row(alloc: Global, line: &Line) -> Result<PowerRow, Refusal>
 }
 
 // Puts a row last and answers true, unless there is a row of its name.
-fn add(
-    alloc: Global,
-    rows: &mut Power,
-    names: &mut IndexSet<Vec<u8>>,
-    row: PowerRow,
-) -> Result<bool, NoMemory>
-    ensures free { IfOk result (λ free. free ≡ not (list_any (bytes_eq row.name) (map items_of names.old.keys))) }
+fn add(rows: &mut Power, names: &mut Names, row: PowerRow) -> Result<bool, NoMemory>
+    ensures free { IfOk result (λ free. free ≡ not (is_among names.old row.name)) }
     ensures row { IfOk result (λ free. OnTrue free (rows.new ≡ rows.old ++ row ∷ [])) }
-    ensures name { IfOk result (λ free. OnTrue free (map items_of names.new.keys ≡ map items_of names.old.keys ++ row.name ∷ [])) }
+    ensures name { IfOk result (λ free. OnTrue free (names.new ≡ names.old ++ row.name ∷ [])) }
 {
-    let name = Vec::from_slice(alloc, row.name.bytes())?;
-    if !names.insert(name)? {
+    if !names.insert(row.name.bytes())? {
         return Ok(false);
     }
     rows.push(row)?;
@@ -59,10 +52,10 @@ fn read_rows(alloc: Global, lexer: &mut Lexer) -> Result<Power, Refusal>
     ensures fault { IfAt result (λ fault. said verdict lexer.old.waiting ≡ Err fault) }
 {
     let mut rows = Power::new(alloc);
-    let mut names = IndexSet::new(alloc);
+    let mut names = Names::new(alloc);
     while let Some(line) = lexer.next_line() {
         let row = read_row(alloc, &line)?;
-        if !add(alloc, &mut rows, &mut names, row)? {
+        if !add(&mut rows, &mut names, row)? {
             let twice = Fault::at(FileKind::Power, line.first, Cause::TwiceRow);
             return Err(Refusal::At(twice));
         }

@@ -2,7 +2,8 @@ use Rattle.std.proofs.Common.{◌∷◌, ◌++◌, []}
 use Rattle.std.proofs.lemmas.Result.{err_from_is_err_and}
 use Rattle.cvc_power.specs.Power.{verdict}
 use Rattle.cvc_lex.proofs.Judging.{at_end, at_fault, at_row}
-use Rattle.cvc_power.proofs.Verdicts.{when, at-weaker, fault_verdict, row_verdict, twice_verdict, names_kept}
+use Rattle.cvc_names.proofs.Repeats.{when}
+use Rattle.cvc_power.proofs.Verdicts.{at-weaker, fault_verdict, row_verdict, twice_verdict, names_kept}
 use Rattle.cvc_power.proofs.reading.read_rows.Goals as goal
 
 pub returns-in_err-row-clause-fault : goal.returns-in_err-row-clause-fault

@@ -10,7 +10,7 @@ use Rattle.cvc_power.proofs.reading.read_rows.Given as goal
 abbrev pub invariant-loop-line : goal.invariant-loop-line
 invariant-loop-line l = record {
   earlier : List Line;
-  names : map (λ name. name.items) l.names.keys ≡ map name_of earlier;
+  names : l.names ≡ map name_of earlier;
   rest : said verdict l.fn.lexer.waiting ≡ behind l.rows (rows_or_fault (verdicts verdict earlier l.lexer.waiting));
 }
 
