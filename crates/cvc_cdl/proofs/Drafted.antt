@@ -17,7 +17,7 @@ use Rattle.cvc_cdl.specs.Netlist.{cell_of, cells_of, each_once, globals_in, glob
 use Rattle.cvc_cdl.specs.Building.{cause_if, cause_of, is_among}
 use Rattle.cvc_cdl.specs.Builder.{draft_of, entry_of, names_at, names_inside, place_in, places_behind}
 use Rattle.cvc_cdl.specs.Drafting.{cause_in, globals_once, in_last, item_cause, names_here, names_once}
-use Rattle.cvc_cdl.proofs.Lists.{has_twice-push}
+use Rattle.cvc_names.proofs.Repeats.{has_twice-push}
 use Rattle.cvc_cdl.proofs.Drafts.{in_last-push}
 use Rattle.cvc_cdl.proofs.Placing.{cell_cards-other, each_once-none, globals_of-push, here, items_at-other, no_item, no_pairs, pairs_at-other, places-push}
 use Rattle.cvc_cdl.proofs.Kept.{EndsWith, IsKept, OpenIsLast, name_of_card}

@@ -15,7 +15,7 @@ use Rattle.cvc_base.specs.declared.stop.Stop.TheVariants as stops
 use Rattle.cvc_cdl.specs.Building.{is_among}
 use Rattle.cvc_cdl.specs.Builder.{Draft}
 use Rattle.cvc_cdl.specs.Drafting.{Becomes, cell_held, cell_with_item, cell_with_pairs, cells_held, draft_held, globals_once, in_last, item_cause, level_with, name_held, names_here, names_once, with_globals, with_item, with_pairs}
-use Rattle.cvc_cdl.proofs.Lists.{when, was_free, was_taken}
+use Rattle.cvc_names.proofs.Repeats.{when, was_free, was_taken}
 
 pub in_last-push : (f : Cell → Cell) (cs : List Cell) (c : Cell) → in_last f (cs ++ c ∷ []) ≡ cs ++ f c ∷ []
 in_last-push f [] c = refl
@@ -126,18 +126,12 @@ with_globals-cons d g gs = by (is_among d.global_names g.name)
 abbrev pub globals_on : ℕ → List (List ℕ) → List Global
 globals_on line names = map (λ name. record { name = name; line = line }) names
 
-module _ (line : ℕ) (names : List (List ℕ)) where
-  abbrev global_on : List ℕ → Global
-  global_on name = record { name = name; line = line }
+module _ (line : ℕ) (wanted d : Draft) (left : List (List ℕ)) (whole : with_globals d (globals_on line left) ≡ wanted) where
+  pub globals_step : (name : List ℕ) (rest : List (List ℕ)) → left ≡ name ∷ rest → (next : Draft) → next ≡ with_globals d (record { name = name; line = line } ∷ []) → with_globals next (globals_on line rest) ≡ wanted
+  globals_step name rest is next step =
+      ap (λ x. with_globals x (globals_on line rest)) step
+      ∙ sym (with_globals-cons d (record { name = name; line = line }) (globals_on line rest))
+      ∙ ap (λ ns. with_globals d (globals_on line ns)) (sym is) ∙ whole
 
-  pub globals_step : (i : ℕ) (lt : i < length names) (name text : List ℕ) → name ≡ get_or names i name → text ≡ name → (wanted d next : Draft) → with_globals d (globals_on line (drop i names)) ≡ wanted
-      → next ≡ with_globals d (global_on text ∷ []) → with_globals next (globals_on line (drop (i + 1) names)) ≡ wanted
-  globals_step i lt name text at same wanted d next whole step =
-      let rest : drop i names ≡ name ∷ drop (i + 1) names = drop_more names i name lt ∙ ap (λ n. n ∷ drop (i + 1) names) (sym at) in
-      ap (λ x. with_globals x (globals_on line (drop (i + 1) names))) (step ∙ ap (λ t. with_globals d (global_on t ∷ [])) same)
-      ∙ sym (with_globals-cons d (global_on name) (globals_on line (drop (i + 1) names)))
-      ∙ ap (λ ns. with_globals d (globals_on line ns)) (sym rest) ∙ whole
-
-  pub globals_end : (i : ℕ) (wanted d : Draft) → length names ≤ i → with_globals d (globals_on line (drop i names)) ≡ wanted → d ≡ wanted
-  globals_end i wanted d le whole =
-      sym (with_globals-none d) ∙ ap (λ ns. with_globals d (globals_on line ns)) (sym (drop_all i names le)) ∙ whole
+  pub globals_end : left ≡ [] → d ≡ wanted
+  globals_end none = sym (with_globals-none d) ∙ ap (λ ns. with_globals d (globals_on line ns)) (sym none) ∙ whole

@@ -13,7 +13,7 @@ use Rattle.cvc_card.specs.Card.{has_twice}
 use Rattle.cvc_cdl.specs.Levels.{Entry, Level, cell_card_in, cell_cards, item_in, items_at, level_after, level_behind, pairs_at, pairs_in, placed, same_level}
 use Rattle.cvc_cdl.specs.Building.{cause_if, cause_of, fault_at, fault_of, first_fault, has_begun, is_among}
 use Rattle.cvc_cdl.specs.Builder.{entry_of}
-use Rattle.cvc_cdl.proofs.Lists.{has_twice-push}
+use Rattle.cvc_names.proofs.Repeats.{has_twice-push}
 use Rattle.cvc_cdl.proofs.Placing.{by_cards, cell_cards-other, cell_cards-push, here, items_at-other, level_behind-push, pairs_at-other}
 
 abbrev pub name_of_card : CellCard → List ℕ

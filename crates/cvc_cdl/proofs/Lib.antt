@@ -1,4 +1,3 @@
-pub mod Lists
 pub mod Drafts
 pub mod Placing
 pub mod Kept
@@ -8,6 +7,7 @@ pub mod Standing
 pub mod Lookups
 pub mod Endings
 pub mod Finished
+pub mod Named
 pub mod Ordered
 pub mod Ended
 pub mod Reading

@@ -1,46 +1,38 @@
 -- Look-ups of cells and ports by their names.
-use Rattle.std.proofs.Common.{◌≡◌, ℕ, zero, suc, ◌+◌, ◌<◌, ◌≤◌, ◌||◌, ◌&&◌, Bool, true, false, cond, List, [], ◌∷◌, ◌++◌, length, map, take, get_or, Option, Some, None, is_some, Bor, if◌then◌else◌, refl, sym, ap, subst, ◌∙◌, arith}
+use Rattle.std.proofs.Common.{◌≡◌, ℕ, zero, suc, ◌+◌, ◌<◌, ◌≤◌, ◌||◌, ◌&&◌, not, Bool, true, false, cond, List, [], ◌∷◌, ◌++◌, length, take, get_or, Option, Some, None, is_some, if◌then◌else◌, refl, sym, ap, subst, ◌∙◌, arith}
+use Rattle.std.specs.Prelude.{nat_lt, position}
+use Rattle.std.specs.Bool.{OnTrue, OnFalse}
 use Rattle.std.specs.Option.{option_map, IfSome}
-use Rattle.std.specs.HashMap.{get_by, Updates as MapUpdates}
-use Rattle.std.specs.Map.{lookup}
-use Rattle.std.specs.HashSet.{contains_by, Updates as SetUpdates}
-use Rattle.std.specs.List.{AllZip, list_all, list_any}
+use Rattle.std.specs.List.{AllZip, list_all, list_any, position_or_len}
 use Rattle.std.specs.Str.{bytes_eq}
-use Rattle.std.specs.Cmp.Lexicographic.{nat_list_eq_equiv}
+use Rattle.std.specs.Cmp.Lexicographic.{bytes_decides}
 use Rattle.std.proofs.Math.Seq.{take-length}
-use Rattle.std.proofs.lemmas.List.{length-map, length-take, map_more, take_more}
+use Rattle.std.proofs.lemmas.Bool.Decides.{nat_tests}
+use Rattle.std.proofs.lemmas.List.{take_more}
 use Rattle.std.proofs.lemmas.List.Folds.{list_all_at, list_all_more, list_any-append}
 use Rattle.cvc_base.specs.declared.param.Pair.{Pair}
-use Rattle.cvc_cdl.specs.declared.library.Places.{Places}
-use Rattle.cvc_cdl.specs.declared.library.PortNames.{PortNames}
+use Rattle.cvc_names.proofs.Repeats.{was_taken}
 use Rattle.cvc_cdl.specs.declared.netlist.Cell.{Cell}
-use Rattle.cvc_cdl.specs.Netlist.{name_of_cell}
-use Rattle.cvc_cdl.specs.Building.{is_among, or_else}
+use Rattle.cvc_cdl.specs.Building.{is_among}
 use Rattle.cvc_cdl.specs.Ending.{connects_ports}
-use Rattle.cvc_cdl.specs.Lookup.{FindsCells, FindsEachPort, FindsPorts, is_key, place_of}
-
-abbrev same_key : Bor (List ℕ) → Bor (List ℕ) → Bool
-same_key a b = bytes_eq a.now b.now
-
-abbrev key_of : List ℕ → Bor (List ℕ)
-key_of name = record { ref_ptr = (0, 0); now = name }
+use Rattle.cvc_cdl.specs.Lookup.{FindsEachPort, FindsPorts, place_of}
 
 -- ## Places
 
-place_of-push : (ns : List (List ℕ)) (n name : List ℕ) → place_of (ns ++ n ∷ []) name ≡ or_else (place_of ns name) (if bytes_eq name n then Some (length ns) else None)
+-- the place in a table of names
+pub place_is : (ns : List (List ℕ)) (name : List ℕ) → position (bytes_eq name) ns ≡ place_of ns name
 unfolding place_of
-place_of-push [] n name = refl
-place_of-push (m ∷ ns) n name = by (bytes_eq name m) (bytes_eq name n) (place_of-push ns n name)
+place_is [] name = refl
+place_is (n ∷ ns) name = by (bytes_eq name n) ∙ ap (λ o. if bytes_eq name n then Some 0 else option_map suc o) (place_is ns name)
   where
-    more : (o : Option ℕ) (b : Bool) → option_map suc (or_else o (if b then Some (length ns) else None)) ≡ or_else (option_map suc o) (if b then Some (suc (length ns)) else None)
-    more None true = refl
-    more None false = refl
-    more (Some i) b = refl
+    step : (a b : ℕ) (t : Bool) → nat_lt a b ≡ t → cond (nat_lt (1 + a) (suc b)) (Some (1 + a)) None ≡ option_map suc (cond t (Some a) None)
+    step a b true e = let h : nat_lt (1 + a) (suc b) ≡ true = grind (arith, nat_tests) in ap (λ v. cond v (Some (1 + a)) None) h ∙ ap (λ n. Some n) (omega arith)
+    step a b false e = let h : nat_lt (1 + a) (suc b) ≡ false = grind (arith, nat_tests) in ap (λ v. cond v (Some (1 + a)) None) h
 
-    by : (a b : Bool) → place_of (ns ++ n ∷ []) name ≡ or_else (place_of ns name) (if b then Some (length ns) else None)
-        → (if a then Some 0 else option_map suc (place_of (ns ++ n ∷ []) name)) ≡ or_else (if a then Some 0 else option_map suc (place_of ns name)) (if b then Some (suc (length ns)) else None)
-    by true b h = refl
-    by false b h = ap (option_map suc) h ∙ more (place_of ns name) b
+    by : (t : Bool) → cond (nat_lt (cond (not t) (1 + position_or_len (bytes_eq name) ns) 0) (suc (length ns))) (Some (cond (not t) (1 + position_or_len (bytes_eq name) ns) 0)) None
+        ≡ (if t then Some 0 else option_map suc (position (bytes_eq name) ns))
+    by true = let h : nat_lt 0 (suc (length ns)) ≡ true = grind (arith, nat_tests) in ap (λ v. cond v (Some 0) None) h
+    by false = step (position_or_len (bytes_eq name) ns) (length ns) (nat_lt (position_or_len (bytes_eq name) ns) (length ns)) refl
 
 pub place_of-below : (ns : List (List ℕ)) (name : List ℕ) → IfSome (place_of ns name) (λ i. i < length ns)
 unfolding place_of
@@ -63,83 +55,40 @@ no_place (n ∷ ns) name = by (bytes_eq name n) (place_of ns name) (no_place ns 
     by false None h = h
     by false (Some i) h = h
 
--- the place of a name that is the same
-place_of-same : (ns : List (List ℕ)) (a b : List ℕ) → bytes_eq a b ≡ true → place_of ns a ≡ place_of ns b
-unfolding place_of
-place_of-same [] a b e = refl
-place_of-same (n ∷ ns) a b e = λ i. if nat_list_eq_equiv.congr a b n e i then Some 0 else option_map suc (place_of-same ns a b e i)
-
-module _ (names : List (List ℕ)) (m : Places) (finds : FindsCells names m) (key : Bor (List ℕ)) (has : Bool) (is : has ≡ is_some (get_by (is_key key.now) m.places)) where
-  at_key : is_some (place_of names key.now) ≡ has
-  at_key = ap is_some (sym (finds.at key.now)) ∙ sym is
-
-  pub place_added : has ≡ false → (n : Places) (i : ℕ) → MapUpdates same_key m.places n.places key (Some i) → i ≡ length names → FindsCells (names ++ key.now ∷ []) n
-  place_added new n i updates size = record {
-    at = λ name.
-        updates.0 (key_of name)
-        ∙ (λ j. cond (nat_list_eq_equiv.symm key.now name j) (Some (size j)) (finds.at name j))
-        ∙ by (bytes_eq name key.now) (place_of names name) (λ e. ap is_some (place_of-same names name key.now e) ∙ at_key ∙ new)
-        ∙ sym (place_of-push names key.now name);
-  }
-    where
-      by : (b : Bool) (o : Option ℕ) → (b ≡ true → is_some o ≡ false) → cond b (Some (length names)) o ≡ or_else o (if b then Some (length names) else None)
-      by true None h = refl
-      by true (Some k) h = absurd (let e = h refl in cc)
-      by false None h = refl
-      by false (Some k) h = refl
-
-  pub place_there : has ≡ true → FindsCells (names ++ key.now ∷ []) m
-  place_there old = record { at = λ name. finds.at name ∙ by (bytes_eq name key.now) (place_of names name) (λ e. ap is_some (place_of-same names name key.now e) ∙ at_key ∙ old) ∙ sym (place_of-push names key.now name) }
-    where
-      by : (b : Bool) (o : Option ℕ) → (b ≡ true → is_some o ≡ true) → o ≡ or_else o (if b then Some (length names) else None)
-      by true None h = absurd (let e = h refl in cc)
-      by true (Some k) h = refl
-      by false None h = refl
-      by false (Some k) h = refl
-
-pub places_none : (m : Places) → m.places.entries ≡ [] → FindsCells [] m
-unfolding place_of
-places_none m e = record { at = λ name. ap (lookup (is_key name)) e }
-
-abbrev pub names_to : ℕ → List Cell → List (List ℕ)
-names_to i cells = map name_of_cell (take i cells)
-
-pub names_more : (cells : List Cell) (i : ℕ) (c : Cell) (key : Bor (List ℕ)) → i < length cells → c ≡ get_or cells i c → key.now ≡ c.name → names_to (i + 1) cells ≡ names_to i cells ++ key.now ∷ []
-names_more cells i c key lt at same = map_more name_of_cell cells i c lt ∙ ap (λ d. names_to i cells ++ name_of_cell d ∷ []) (sym at) ∙ ap (λ n. names_to i cells ++ n ∷ []) (sym same)
-
-pub names_so_far : (cells : List Cell) (i : ℕ) → i < length cells → i ≡ length (names_to i cells)
-names_so_far cells i lt = omega (arith, length-map (take i cells) name_of_cell, length-take i cells)
-
-pub names_whole : (cells : List Cell) (i : ℕ) → i ≤ length cells → length cells ≤ i → names_to i cells ≡ map name_of_cell cells
-names_whole cells i le ge = let e : i ≡ length cells = omega arith in ap (λ n. names_to n cells) e ∙ ap (map name_of_cell) (take-length cells)
-
 -- ## Ports
 
-pub port_added : (ports : List (List ℕ)) (s n : PortNames) (key : Bor (List ℕ)) → FindsPorts ports s → SetUpdates same_key s.names n.names key true → FindsPorts (ports ++ key.now ∷ []) n
-port_added ports s n key finds updates = record {
-  at = λ name.
-      updates.0 (key_of name)
-      ∙ (λ j. cond (nat_list_eq_equiv.symm key.now name j) true (finds.at name j))
-      ∙ by (bytes_eq name key.now) (is_among ports name)
-      ∙ sym (list_any-append (bytes_eq name) ports (key.now ∷ []));
+pub port_added : (ports names next : List (List ℕ)) (name : List ℕ) (free : Bool) → FindsPorts ports names → free ≡ not (is_among names name) → OnTrue free (next ≡ names ++ name ∷ []) → OnFalse free (next ≡ names)
+    → FindsPorts (ports ++ name ∷ []) next
+port_added ports names next name true finds is added same = record {
+  at = λ q.
+      ap (λ ns. is_among ns q) added
+      ∙ list_any-append (bytes_eq q) names (name ∷ [])
+      ∙ ap (λ b. b || (bytes_eq q name || false)) (finds.at q)
+      ∙ sym (list_any-append (bytes_eq q) ports (name ∷ []));
+}
+port_added ports names next name false finds is added same = record {
+  at = λ q.
+      ap (λ ns. is_among ns q) same
+      ∙ finds.at q
+      ∙ by (is_among ports q) (bytes_eq q name) (λ e. sym (finds.at q) ∙ ap (is_among names) ((bytes_decides q name).0 e) ∙ was_taken false (is_among names name) is refl)
+      ∙ sym (list_any-append (bytes_eq q) ports (name ∷ []));
 }
   where
-    by : (a b : Bool) → cond a true b ≡ (b || (a || false))
-    by true true = refl
-    by true false = refl
-    by false true = refl
-    by false false = refl
+    by : (a b : Bool) → (b ≡ true → a ≡ true) → a ≡ (a || (b || false))
+    by true b h = refl
+    by false true h = h refl
+    by false false h = refl
 
-pub ports_none : (s : PortNames) → s.names.keys ≡ [] → FindsPorts [] s
-ports_none s e = record { at = λ name. ap (λ (ks : List (Bor (List ℕ))). list_any (is_key name) ks) e }
+pub ports_none : (names : List (List ℕ)) → names ≡ [] → FindsPorts [] names
+ports_none names e = record { at = λ q. ap (λ ns. is_among ns q) e }
 
-pub ports_more : (ports : List (List ℕ)) (i : ℕ) (s n : PortNames) (key : Bor (List ℕ)) (port : List ℕ) → i < length ports → port ≡ get_or ports i port → key.now ≡ port → FindsPorts (take i ports) s
-    → SetUpdates same_key s.names n.names key true → FindsPorts (take (i + 1) ports) n
-ports_more ports i s n key port lt at same finds updates =
-    subst (λ ps. FindsPorts ps n) (ap (λ p. take i ports ++ p ∷ []) (same ∙ at) ∙ sym (take_more ports i port lt)) (port_added (take i ports) s n key finds updates)
+pub ports_more : (ports : List (List ℕ)) (i : ℕ) (names next : List (List ℕ)) (port name : List ℕ) (free : Bool) → i < length ports → port ≡ get_or ports i port → name ≡ port → FindsPorts (take i ports) names
+    → free ≡ not (is_among names name) → OnTrue free (next ≡ names ++ name ∷ []) → OnFalse free (next ≡ names) → FindsPorts (take (i + 1) ports) next
+ports_more ports i names next port name free lt at same finds is added kept =
+    subst (λ ps. FindsPorts ps next) (ap (λ p. take i ports ++ p ∷ []) (same ∙ at) ∙ sym (take_more ports i port lt)) (port_added (take i ports) names next name free finds is added kept)
 
-pub ports_whole : (ports : List (List ℕ)) (i : ℕ) (s : PortNames) → i ≤ length ports → length ports ≤ i → FindsPorts (take i ports) s → FindsPorts ports s
-ports_whole ports i s le ge finds = let e : i ≡ length ports = omega arith in subst (λ ps. FindsPorts ps s) (ap (λ n. take n ports) e ∙ take-length ports) finds
+pub ports_whole : (ports : List (List ℕ)) (i : ℕ) (names : List (List ℕ)) → i ≤ length ports → length ports ≤ i → FindsPorts (take i ports) names → FindsPorts ports names
+ports_whole ports i names le ge finds = let e : i ≡ length ports = omega arith in subst (λ ps. FindsPorts ps names) (ap (λ n. take n ports) e ∙ take-length ports) finds
 
 -- ## Connections
 
@@ -147,7 +96,7 @@ module _ (ports : List (List ℕ)) (pairs : List Pair) (i : ℕ) where
   abbrev names_port : Pair → Bool
   names_port p = is_among ports p.name
 
-  module _ (s : PortNames) (finds : FindsPorts ports s) (lt : i < length pairs) (p : Pair) (at : p ≡ get_or pairs i p) (name : List ℕ) (same : name ≡ p.name) (there : Bool) (is : there ≡ contains_by (is_key name) s.names) where
+  module _ (names : List (List ℕ)) (finds : FindsPorts ports names) (lt : i < length pairs) (p : Pair) (at : p ≡ get_or pairs i p) (name : List ℕ) (same : name ≡ p.name) (there : Bool) (is : there ≡ is_among names name) where
     tested : names_port (get_or pairs i p) ≡ there
     tested = ap names_port (sym at) ∙ ap (is_among ports) (sym same) ∙ sym (finds.at name) ∙ sym is
 
@@ -162,34 +111,34 @@ module _ (ports : List (List ℕ)) (pairs : List Pair) (i : ℕ) where
 
 -- ## The ports of each cell
 
-abbrev pub AreTheirPorts : List Cell → List PortNames → Type 0
-AreTheirPorts cells names = AllZip (λ (c : Cell) (n : PortNames). FindsPorts c.ports n) cells names
+abbrev pub AreTheirPorts : List Cell → List (List (List ℕ)) → Type 0
+AreTheirPorts cells names = AllZip (λ (c : Cell) (n : List (List ℕ)). FindsPorts c.ports n) cells names
 
-sized : (cells : List Cell) (names : List PortNames) → AreTheirPorts cells names → length names ≡ length cells
+sized : (cells : List Cell) (names : List (List (List ℕ))) → AreTheirPorts cells names → length names ≡ length cells
 sized [] [] h = refl
 sized [] (n ∷ ns) h = absurd h
 sized (c ∷ cs) [] h = absurd h
 sized (c ∷ cs) (n ∷ ns) h = ap suc (sized cs ns h.1)
 
-theirs_at : (cells : List Cell) (names : List PortNames) → AreTheirPorts cells names → (k : ℕ) (c : Cell) (n : PortNames) → k < length cells → FindsPorts (get_or cells k c).ports (get_or names k n)
+theirs_at : (cells : List Cell) (names : List (List (List ℕ))) → AreTheirPorts cells names → (k : ℕ) (c : Cell) (n : List (List ℕ)) → k < length cells → FindsPorts (get_or cells k c).ports (get_or names k n)
 theirs_at [] names h k c n lt = absurd (omega arith)
 theirs_at (d ∷ cs) [] h k c n lt = absurd h
 theirs_at (d ∷ cs) (m ∷ ns) h zero c n lt = h.0
 theirs_at (d ∷ cs) (m ∷ ns) h (suc k) c n lt = theirs_at cs ns h.1 k c n (omega arith)
 
-theirs_push : (cells : List Cell) (names : List PortNames) (c : Cell) (n : PortNames) → AreTheirPorts cells names → FindsPorts c.ports n → AreTheirPorts (cells ++ c ∷ []) (names ++ n ∷ [])
+theirs_push : (cells : List Cell) (names : List (List (List ℕ))) (c : Cell) (n : List (List ℕ)) → AreTheirPorts cells names → FindsPorts c.ports n → AreTheirPorts (cells ++ c ∷ []) (names ++ n ∷ [])
 theirs_push [] [] c n h f = (f, tt)
 theirs_push [] (m ∷ ns) c n h f = absurd h
 theirs_push (d ∷ cs) [] c n h f = absurd h
 theirs_push (d ∷ cs) (m ∷ ns) c n h f = (h.0, theirs_push cs ns c n h.1 f)
 
-pub each_port : (cells : List Cell) (i : ℕ) (names : List PortNames) → i ≤ length cells → length cells ≤ i → AreTheirPorts (take i cells) names → FindsEachPort cells names
+pub each_port : (cells : List Cell) (i : ℕ) (names : List (List (List ℕ))) → i ≤ length cells → length cells ≤ i → AreTheirPorts (take i cells) names → FindsEachPort cells names
 each_port cells i names le ge h =
     let e : i ≡ length cells = omega arith in
     let all : AreTheirPorts cells names = subst (λ cs. AreTheirPorts cs names) (ap (λ n. take n cells) e ∙ take-length cells) h in
     record { sized = sized cells names all; at = λ k c n lt. theirs_at cells names all k c n lt }
 
-pub ports_push : (cells : List Cell) (i : ℕ) (names : List PortNames) (c : Cell) (ports : List (List ℕ)) (n : PortNames) → i < length cells → c ≡ get_or cells i c → ports ≡ c.ports → FindsPorts ports n
+pub ports_push : (cells : List Cell) (i : ℕ) (names : List (List (List ℕ))) (c : Cell) (ports : List (List ℕ)) (n : List (List ℕ)) → i < length cells → c ≡ get_or cells i c → ports ≡ c.ports → FindsPorts ports n
     → AreTheirPorts (take i cells) names → AreTheirPorts (take (i + 1) cells) (names ++ n ∷ [])
 ports_push cells i names c ports n lt at same finds h =
     subst (λ cs. AreTheirPorts cs (names ++ n ∷ [])) (ap (λ d. take i cells ++ d ∷ []) at ∙ sym (take_more cells i c lt))

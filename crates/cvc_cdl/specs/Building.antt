@@ -1,7 +1,7 @@
 -- The faults of cards by the cards before them, and the first of them. On one `.SUBCKT` card the order is NestedSubckt, TwiceCell, TwicePort, and on one
 -- `.ENDS` card StrayEnds, EndsName. Each is printed with the card's first line.
+pub use Rattle.cvc_names.specs.Names.{is_among}
 use Rattle.std.specs.Prelude.{ℕ, Bool, List, [], ◌∷◌, ◌++◌, map, Option, Some, None, is_some, if◌then◌else◌}
-use Rattle.std.specs.List.{list_any}
 use Rattle.std.specs.Option.{option_map}
 use Rattle.std.specs.Str.{bytes_eq}
 use Rattle.cvc_base.specs.declared.cause.Cause.{Cause}
@@ -24,10 +24,6 @@ fault_at line cause = record { place = record { file = Netlist; line = line }; c
 abbrev pub name_of_item : Item → List ℕ
 name_of_item (items.Device d) = d.name
 name_of_item (items.Inst x) = x.name
-
--- a name stands among these
-abbrev pub is_among : List (List ℕ) → List ℕ → Bool
-is_among names name = list_any (bytes_eq name) names
 
 -- an item of this name stands at the level
 abbrev pub is_taken : Level → List Entry → List ℕ → Bool

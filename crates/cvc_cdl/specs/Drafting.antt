@@ -1,5 +1,5 @@
 -- What a card changes in a draft, and its cause there. Only the builder's own parts speak of this.
-use Rattle.std.specs.Prelude.{◌≡◌, ℕ, List, [], ◌∷◌, ◌++◌, length, Option, Some, None, is_some, Result, Ok, Err, if◌then◌else◌}
+use Rattle.std.specs.Prelude.{◌≡◌, ℕ, List, [], ◌∷◌, ◌++◌, length, map, Option, Some, None, is_some, Result, Ok, Err, if◌then◌else◌}
 use Rattle.std.specs.Option.{option_map, option_to_list}
 use Rattle.cvc_base.specs.declared.cause.Cause.{Cause}
 use Rattle.cvc_base.specs.declared.cause.Cause.TheVariants.{NestedSubckt, TwiceCell, TwicePort, TwiceName}
@@ -21,7 +21,7 @@ use Rattle.cvc_cdl.specs.declared.level.Level.{Level as HeldLevel}
 use Rattle.cvc_base.specs.declared.stop.Stop.{Stop}
 use Rattle.cvc_base.specs.declared.stop.Stop.TheVariants as stops
 use Rattle.cvc_cdl.specs.Levels.{Level}
-use Rattle.cvc_cdl.specs.Netlist.{globals_in}
+use Rattle.cvc_cdl.specs.Netlist.{globals_in, name_of_cell}
 use Rattle.cvc_cdl.specs.Building.{cause_if, ends_cause, is_among, name_of_item}
 use Rattle.cvc_cdl.specs.Builder.{Draft}
 
@@ -54,6 +54,10 @@ draft_held d = record {
   inner_names = names_held d.current;
   places = d.places.items;
 }
+
+-- the names of the cells are known
+abbrev pub AreNamed : Draft → Type 0
+AreNamed d = d.cell_names ≡ map name_of_cell d.cells
 
 -- ## What a card changes
 

@@ -4,7 +4,6 @@ pub mod Building
 pub mod Ending
 pub mod WellFormed
 pub mod Builder
-pub mod Held
 pub mod Drafting
 pub mod Text
 pub mod Lookup

@@ -1,11 +1,10 @@
 //! The builder of a netlist.
 ghost use Rattle.std.specs.Prelude.{◌≡◌, [], ◌∷◌, ◌++◌, List, Some, None, Ok, Err, IfOk, IfSome};
 ghost use Rattle.cvc_card.specs.Formed.{IsFormed};
-ghost use Rattle.cvc_cdl.specs.Drafting.{refusal_of};
 
 use crate::draft::Draft;
 use crate::netlist::Netlist;
-use cvc_base::{FileKind, NoMemory, Refusal, Stop};
+use cvc_base::{FileKind, NoMemory, Refusal};
 use cvc_card::Card;
 use std::alloc::Global;
 use std::marker::Model;
@@ -25,6 +24,11 @@ impl Model for Builder {
     ghost use Rattle.cvc_cdl.specs.Drafting.{draft_held};
 
     ghost view = { λ b. record { refused = b.refused; draft = draft_held b.draft } };
+
+    ghost use Rattle.std.specs.Prelude.{◌≡◌, None};
+    ghost use Rattle.cvc_cdl.specs.Drafting.{AreNamed};
+
+    ghost invariant = { λ b. b.refused ≡ None → AreNamed (draft_held b.draft) };
 }
 
 impl Builder {
@@ -46,16 +50,6 @@ impl Builder {
         })
     }
 
-    // Keeps the refusal that a stop at a card makes.
-    fn refuse(&mut self, line: u32, stop: Stop) -> Refusal
-        ensures refusal { result ≡ refusal_of line stop }
-        ensures kept { self.new ≡ record self.old { refused = Some result } }
-    {
-        let refusal = stop.on(FileKind::Netlist, line);
-        self.refused = Some(refusal);
-        refusal
-    }
-
     /// Takes the next card, whose first line is `line`. A device card has as many nets as its letter, and no card connects a port twice
     /// by name, as every card that `read_card` answers.
     ///
@@ -74,7 +68,11 @@ impl Builder {
         }
         match self.draft.add(card, line) {
             Ok(()) => Ok(()),
-            Err(stop) => Err(self.refuse(line, stop)),
+            Err(stop) => {
+                let refusal = stop.on(FileKind::Netlist, line);
+                self.refused = Some(refusal);
+                Err(refusal)
+            }
         }
     }
 

@@ -2,17 +2,17 @@
 ghost use Rattle.std.specs.Prelude.{◌≡◌, [], ◌∷◌, ◌++◌, Some, None, is_some, IfOk};
 ghost use Rattle.cvc_cdl.specs.Netlist.{globals_in, top_of};
 ghost use Rattle.cvc_cdl.specs.Building.{ends_cause};
-ghost use Rattle.cvc_cdl.specs.Drafting.{Becomes, begun_cause, cause_in, cell_held, draft_held, item_cause, names_here, with_card, with_cell, with_globals, with_item, with_pairs, without_level};
+ghost use Rattle.cvc_cdl.specs.Drafting.{AreNamed, Becomes, begun_cause, cause_in, cell_held, draft_held, item_cause, names_here, with_card, with_cell, with_globals, with_item, with_pairs, without_level};
 ghost use Rattle.cvc_cdl.specs.Builder.{named_top};
 ghost use Rattle.cvc_cdl.specs.Finishing.{Finishes, draft_netlist};
 
 use crate::ending::check;
 use crate::fault::fault_at;
 use crate::level::Level;
-use crate::names::{Names, has_twice};
 use crate::netlist::{Cell, Cells, Global, Globals, Item, Netlist};
-use cvc_base::{Cause, NoMemory, Pair, Pairs, Refusal, Stop, Text, Texts};
+use cvc_base::{Cause, NoMemory, Pairs, Refusal, Stop, Text, Texts};
 use cvc_card::{Card, CellCard};
+use cvc_names::{Names, has_twice};
 use std::alloc::Global as Heap;
 
 /// A cell that has no end yet.
@@ -61,15 +61,12 @@ impl OpenCell {
     }
 }
 
-// Puts copies of these pairs last.
-fn add_copies(alloc: Heap, list: &mut Pairs, pairs: &[Pair]) -> Result<(), Stop>
-    ensures { Becomes None (list.old ++ pairs.now) list.new result }
+// Puts these pairs last.
+fn append(list: &mut Pairs, pairs: Pairs) -> Result<(), Stop>
+    ensures { Becomes None (list.old ++ pairs) list.new result }
 {
-    for pair in pairs {
-        list.push(Pair {
-            name: Text::of(alloc, pair.name.bytes())?,
-            value: Text::of(alloc, pair.value.bytes())?,
-        })?;
+    for pair in pairs.into_vec() {
+        list.push(pair)?;
     }
     Ok(())
 }
@@ -131,13 +128,12 @@ impl Draft {
     }
 
     // The pairs of a `.PARAM` card.
-    fn add_pairs(&mut self, pairs: &[Pair]) -> Result<(), Stop>
-        ensures { let d = draft_held self.old in Becomes None (with_pairs d.level d pairs.now) (draft_held self.new) result }
+    fn add_pairs(&mut self, pairs: Pairs) -> Result<(), Stop>
+        ensures { let d = draft_held self.old in Becomes None (with_pairs d.level d pairs) (draft_held self.new) result }
     {
-        let alloc = self.alloc;
         match &mut self.current {
-            Some(cell) => add_copies(alloc, &mut cell.card.pairs, pairs),
-            None => add_copies(alloc, &mut self.params, pairs),
+            Some(cell) => append(&mut cell.card.pairs, pairs),
+            None => append(&mut self.params, pairs),
         }
     }
 
@@ -177,24 +173,21 @@ impl Draft {
     }
 
     // A global net, unless it is known.
-    fn add_global(&mut self, name: &[u8], line: u32) -> Result<(), Stop>
-        ensures { Becomes None (with_globals (draft_held self.old) (record { name = name.now; line = line } ∷ [])) (draft_held self.new) result }
+    fn add_global(&mut self, name: Text, line: u32) -> Result<(), Stop>
+        ensures { Becomes None (with_globals (draft_held self.old) (record { name = name; line = line } ∷ [])) (draft_held self.new) result }
     {
-        if self.global_names.insert(name)? {
-            self.globals.push(Global {
-                name: Text::of(self.alloc, name)?,
-                line,
-            })?;
+        if self.global_names.insert(name.bytes())? {
+            self.globals.push(Global { name, line })?;
         }
         Ok(())
     }
 
     // The names of a card that names global nets.
-    fn add_globals(&mut self, names: &[Text], line: u32) -> Result<(), Stop>
-        ensures { Becomes None (with_globals (draft_held self.old) (globals_in line (Card.Global names.now))) (draft_held self.new) result }
+    fn add_globals(&mut self, names: Texts, line: u32) -> Result<(), Stop>
+        ensures { Becomes None (with_globals (draft_held self.old) (globals_in line (Card.Global names))) (draft_held self.new) result }
     {
-        for name in names {
-            self.add_global(name.bytes(), line)?;
+        for name in names.into_vec() {
+            self.add_global(name, line)?;
         }
         Ok(())
     }
@@ -208,8 +201,8 @@ impl Draft {
             Card::Inst(inst) => self.add_item(Item::Inst(inst)),
             Card::Subckt(cell) => self.begin_cell(cell),
             Card::Ends(name) => self.end_cell(name),
-            Card::Global(names) => self.add_globals(names.as_slice(), line),
-            Card::Params(pairs) => self.add_pairs(pairs.as_slice()),
+            Card::Global(names) => self.add_globals(names, line),
+            Card::Params(pairs) => self.add_pairs(pairs),
             Card::Ignored => Ok(()),
         }
     }
@@ -256,14 +249,23 @@ impl Draft {
 
     /// The netlist, or its first fault as a whole.
     pub(crate) fn finish(self, top: Option<&[u8]>) -> Result<Netlist, Refusal>
+        requires { AreNamed (draft_held self) }
         ensures { Finishes (draft_held self) (named_top top.entry) result }
     {
         if let Some(open) = &self.current {
             let fault = fault_at(open.card.line, Cause::OpenSubckt);
             return Err(Refusal::At(fault));
         }
+        let cells = self.ended.as_slice();
         let items = self.main.items.as_slice();
-        match check(self.alloc, self.ended.as_slice(), &self.places, items, top) {
+        match check(
+            self.alloc,
+            cells,
+            &self.cell_names,
+            &self.places,
+            items,
+            top,
+        ) {
             Ok(None) => {}
             Ok(Some(fault)) => return Err(Refusal::At(fault)),
             Err(NoMemory) => return Err(Refusal::NoMemory),

@@ -12,6 +12,7 @@ use crate::library::Library;
 use crate::netlist::{Cell, Item};
 use cvc_base::{Cause, Fault, NoMemory, Refusal};
 use cvc_card::InstCard;
+use cvc_names::Names;
 use std::alloc::Global;
 
 // Puts the instances among these items last.
@@ -167,17 +168,19 @@ fn top_fault(library: &Library<'_>, top: Option<&[u8]>) -> Option<Fault>
     }
 }
 
-/// The first fault of a netlist without an open cell, in time linear in its cells, items and ports.
+/// The first fault of a netlist without an open cell, whose cells have these names, in time linear in its cells, items and ports.
 pub(crate) fn check(
     alloc: Global,
     cells: &[Cell],
+    names: &Names,
     places: &[usize],
     items: &[Item],
     top: Option<&[u8]>,
 ) -> Result<Option<Fault>, NoMemory>
+    requires { names.now ≡ map name_of_cell cells.now }
     ensures { IfOk result (λ fault. fault ≡ cells_fault_in cells.now (file_instances items.now cells.now places.now) (named_top top.entry)) }
 {
-    let library = Library::of(alloc, cells)?;
+    let library = Library::of(alloc, cells, names)?;
     let instances = instances(alloc, cells, places, items)?;
     let misfit = first_misfit(&library, &instances);
     if misfit.is_some() {

@@ -2,9 +2,9 @@
 ghost use Rattle.std.specs.Prelude.{◌≡◌, []};
 ghost use Rattle.cvc_cdl.specs.Drafting.{Becomes, item_cause, level_with};
 
-use crate::names::Names;
 use crate::netlist::{Item, Items};
 use cvc_base::{Cause, Stop};
+use cvc_names::Names;
 use std::alloc::Global;
 
 /// The devices and instances of a level, and their names.

@@ -9,7 +9,6 @@ mod fault;
 pub mod laws;
 mod level;
 mod library;
-mod names;
 mod netlist;
 mod text;
 

@@ -6,4 +6,4 @@ returns-in_default c = cause_unknown c.args.self.now.cells.now c.args.inst.now c
 
 pub returns : goal.returns
 returns c =
-    cause_known c.args.self.now.cells.now c.args.inst.now c.bytes.result.now c.in-Some.place c.index-self-place.result c.bytes.ensures c.in-Some.ensures.place c.cause.result c.cause.ensures
+    cause_known c.args.self.now.cells.now c.args.inst.now c.bytes.result.now c.in-Some.place c.index-self-place.result c.bytes.ensures c.in-Some.ensures.place c.misfit.result c.misfit.ensures

@@ -1,6 +1,0 @@
-use Rattle.std.proofs.Common.{take}
-use Rattle.cvc_cdl.specs.Lookup.{FindsPorts}
-use Rattle.cvc_cdl.proofs.library.PortNames.of.Given as goal
-
-abbrev pub invariant-loop-port : goal.invariant-loop-port
-invariant-loop-port l = FindsPorts (take l.port-index l.ports) (record { names = l.names })

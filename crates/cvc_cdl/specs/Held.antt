@@ -1,6 +1,0 @@
--- Names as the code keeps them.
-use Rattle.std.specs.Prelude.{ℕ, List, Vec}
-use Rattle.std.specs.declared.alloc.Global.{Global}
-
-abbrev pub items_of : Vec ℕ Global → List ℕ
-items_of v = v.items
