@@ -4,6 +4,8 @@
 #[cfg(test)]
 mod cards;
 #[cfg(test)]
+mod conduction;
+#[cfg(test)]
 mod crew;
 #[cfg(test)]
 mod fields;
@@ -11,6 +13,8 @@ mod fields;
 mod lines;
 #[cfg(test)]
 mod loads;
+#[cfg(test)]
+mod machine;
 #[cfg(test)]
 mod netlists;
 #[cfg(test)]

@@ -1,52 +1,10 @@
-ghost use Rattle.std.specs.Prelude.{◌≡◌, IfOk};
-ghost use Rattle.cvc_law.specs.Network.{IsDevice, nets, devices};
+//! Runs of the pure machine.
 
-use super::*;
-use arrayvec::ArrayVec;
-use cvc_base::{DevId, Kind, Mv, NetId, NoMemory, Side, Volts};
-use cvc_law::{Circuit, Device, Fixed};
-use std::alloc::Global;
+use crate::fields::one_resistor;
+use cvc_base::{DevId, NetId, Side};
+use cvc_core::{Event, Mark, run, start, step};
+use cvc_law::Circuit;
 use std::test::Fail;
-
-// A resistor from net 0 to net 1.
-fn resistor() -> Device
-    ensures { IsDevice 2 result }
-{
-    let zero = Mv::new(0).unwrap();
-    let mut pins = ArrayVec::new();
-    pins.push(NetId(0));
-    pins.push(NetId(1));
-    Device {
-        kind: Kind::Resistor,
-        pins,
-        volts: Volts {
-            threshold: zero,
-            weak: zero,
-            drop: zero,
-            junction: zero,
-            vgs: None,
-            vgd: None,
-            vds: None,
-            vbs: None,
-            vbd: None,
-            vbg: None,
-        },
-    }
-}
-
-// A net declared at 1200, and a resistor from there to a second net.
-fn one_resistor(alloc: Global) -> Result<Circuit, NoMemory>
-    ensures { IfOk result (λ c. (nets c ≡ 2) × (devices c ≡ 1)) }
-{
-    let supply = Mv::new(1200).unwrap();
-    let declared = Fixed {
-        low: supply,
-        high: supply,
-    };
-    let fixed = vec![in alloc; Some(declared), None]?;
-    let devices = vec![in alloc; resistor()]?;
-    Circuit::new(alloc, fixed, devices)
-}
 
 const D: DevId = DevId(0);
 
