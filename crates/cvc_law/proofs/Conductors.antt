@@ -10,8 +10,8 @@ use Rattle.cvc_law.specs.declared.interval.Interval.{Interval}
 use Rattle.cvc_law.specs.declared.interval.Reads.{Reads}
 use Rattle.cvc_law.specs.Network.{Network, nets, devices, IsDevice, IsCircuit}
 use Rattle.cvc_law.specs.Conduction.{low_from, high_from, diode_gives, end_gives, offered}
-use Rattle.cvc_law.specs.Conductor.{voltage_of, conductor_of, volts_of, IsOnNets}
-use Rattle.cvc_law.specs.Reach.{device_at, no_device}
+use Rattle.cvc_law.specs.Conductor.{voltage_of, conductor_of, volts_of, IsOnNets, net_at}
+use Rattle.cvc_law.specs.Reach.{device_at, no_device, end_net}
 use Rattle.cvc_law.proofs.ReachPlaces.{device_sound, end_within}
 
 on_nets : (n : ℕ) (d : Device) → IsDevice n d → IsOnNets n (conductor_of d)
@@ -23,6 +23,12 @@ module _ (n : Network) (compact : List Conductor) (i : ℕ) (c : Conductor) (kep
 
   pub kept_on_nets : IsCircuit n.fixed n.devices → IsOnNets (nets n) c
   kept_on_nets circuit = subst (IsOnNets (nets n)) (sym kept_at) (on_nets (nets n) (device_at n i) (device_sound n circuit i inside))
+
+-- its nets are the device's
+pub net_of : (d : Device) (p : ℕ) → net_at (conductor_of d) p ≡ end_net d p
+net_of d zero = refl
+net_of d (suc zero) = refl
+net_of d (suc (suc p)) = refl
 
 -- ---- conduction by the one voltage
 low_by : (k : Kind) (v : Volts) (near gate : Interval) → low_from k (volts_of (voltage_of k v)) near gate ≡ low_from k v near gate
