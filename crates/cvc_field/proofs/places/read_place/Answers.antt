@@ -1,4 +1,4 @@
-use Rattle.std.proofs.Common.{◌≡◌, ℕ, ◌/◌, ◌%◌, ◌+◌, ◌*◌, ap, ◌∙◌}
+use Rattle.std.proofs.Common.{ℕ, ◌/◌, ◌%◌, ◌+◌, ◌*◌, ap, ◌∙◌}
 use Rattle.cvc_law.specs.declared.conductor.Conductor.{Conductor}
 use Rattle.cvc_law.specs.Conductor.{net_at}
 use Rattle.cvc_law.specs.Reach.{device_at}
