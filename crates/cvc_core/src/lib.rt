@@ -21,6 +21,3 @@ pub use machine::{run, step};
 pub use opening::start;
 pub use state::State;
 pub use store::Mark;
-
-#[cfg(test)]
-mod tests;

@@ -6,9 +6,6 @@ use Rattle.std.proofs.lemmas.Bool.Decides.{nat_tests}
 use mathlib.Core.Logic.{dite}
 use native.Mathlib.Decide.{ℕ_discrete, dec_lt}
 use Rattle.cvc_base.specs.declared.ids.DevId.{DevId}
-use Rattle.std.specs.Prelude.{slice_get}
-use Rattle.cvc_law.specs.declared.device.Device.{Device}
-use Rattle.cvc_law.proofs.ReachPlaces.{device_at_is}
 use Rattle.cvc_law.specs.Network.{Network, devices, IsCircuit, ceiling_of, floor_of}
 use Rattle.cvc_law.specs.Reach.{widest, low_of, high_of, bound_of, device_at, read_place, read_count, needs}
 use Rattle.cvc_law.specs.ReachWord.{bound_in, reach_in}
@@ -151,6 +148,5 @@ all_loaded c d bounds a circuit lt t = let r : Run = t.0 in let h = t.2 in
     )
 
 -- the reads of the device's kind
-pub loaded_to_end : (c : Network) (d : DevId) (dev : Device) (n i : ℕ) (bounds : List (Option ℤ)) (a : Actor) → slice_get c.devices d.0 ≡ Some dev → n ≡ read_count dev.kind → i ≤ n → n ≤ i → IsLoading c d i bounds a → IsLoading c d (read_count (device_at c d.0).kind) bounds a
-loaded_to_end c d dev n i bounds a is count few many t = let same : i ≡ n = omega arith in
-    subst (λ (m : ℕ). IsLoading c d m bounds a) (same ∙ (count ∙ ap (λ (z : Device). read_count z.kind) (sym (device_at_is c d.0 dev is).1))) t
+pub loaded_to_end : (c : Network) (d : DevId) (n i : ℕ) (bounds : List (Option ℤ)) (a : Actor) → n ≡ read_count (device_at c d.0).kind → i ≤ n → n ≤ i → IsLoading c d i bounds a → IsLoading c d (read_count (device_at c d.0).kind) bounds a
+loaded_to_end c d n i bounds a count few many t = let same : i ≡ n = omega arith in subst (λ (m : ℕ). IsLoading c d m bounds a) (same ∙ count) t

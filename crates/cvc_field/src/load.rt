@@ -8,7 +8,7 @@ ghost use Rattle.cvc_field.specs.Runs.{Goes, IsLoading, IsGiving, reads_in};
 ghost use Rattle.cvc_field.specs.Seats.{IsSeatOf};
 
 use crate::field::Field;
-use crate::places::read_place;
+use crate::places::{read_count, read_place};
 use crate::view::View;
 use crate::words::bound_in;
 use atomic_table::Seat;
@@ -63,7 +63,7 @@ impl<'c> Field<'c> {
     {
         let _circuit = self.circuit.nets();
         let mut bounds = [None; 6];
-        for read in 0..self.circuit.device(d).read_count() {
+        for read in 0..read_count(self.circuit, d) {
             self.load_one(seat, d, read, &mut bounds);
         }
         reads_of(bounds)

@@ -1,6 +1,7 @@
 pub mod FansMentioned
 pub mod FansPlaced
 pub mod CircuitParts
+pub mod Conductors
 pub mod GivingParts
 pub mod ReachSpans
 pub mod ReachGiving

@@ -14,7 +14,7 @@ use Rattle.cvc_law.proofs.ReachValues.{low_none, high_none, low_wider, high_wide
 use Rattle.cvc_law.proofs.ReachPlaces.{declared_in_range}
 
 module _ (c : Network) where
-  reach_unknown : (side : ℕ) → reach_on c side unknown ≡ 0
+  pub reach_unknown : (side : ℕ) → reach_on c side unknown ≡ 0
   reach_unknown zero = low_none (ceiling_of c)
   reach_unknown (suc n) = high_none (floor_of c)
 

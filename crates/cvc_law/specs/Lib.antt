@@ -10,5 +10,6 @@ pub mod WordLaws
 pub mod BothForms
 pub mod Rules
 pub mod Bound
+pub mod Conductor
 pub mod Fans
 pub mod Kept

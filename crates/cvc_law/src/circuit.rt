@@ -1,12 +1,14 @@
 //! Circuits: what each net is declared at, the devices, and the fans of the nets.
 ghost use Rattle.std.specs.Prelude.{◌≡◌, ◌<◌, Option, Some, map, slice_get, IfOk, All};
 ghost use Rattle.cvc_law.specs.Network.{IsCircuit, IsDevice, nets, devices, fixed_at, fan_of, floor_of, ceiling_of};
+ghost use Rattle.cvc_law.specs.Conductor.{conductor_of, IsOnNets};
 ghost use Rattle.cvc_law.specs.Reach.{device_at};
 ghost use Rattle.cvc_law.specs.ReachWord.{IsInMillion};
 
+use crate::conductor::conductors_of;
 use crate::fans::{Fans, fans_of};
 use crate::range::{highest, lowest};
-use crate::{Device, Fixed};
+use crate::{Conductor, Device, Fixed};
 use cvc_base::{DevId, Mv, NetId, NoMemory};
 use std::alloc::Global;
 use std::marker::Model;
@@ -17,6 +19,7 @@ use std::marker::Model;
 pub struct Circuit {
     fixed: Vec<Option<Fixed>>,
     devices: Vec<Device>,
+    conductors: Vec<Conductor>,
     fans: Fans,
     floor: Option<Mv>,
     ceiling: Option<Mv>,
@@ -30,7 +33,7 @@ impl Model for Circuit {
 
     ghost view = { λ c. record { fixed = c.fixed.items; devices = c.devices.items } };
 
-    ghost invariant = { λ c. IsKept c.fixed.items c.devices.items c.fans.offsets.items c.fans.devices.items c.floor c.ceiling };
+    ghost invariant = { λ c. IsKept c.fixed.items c.devices.items c.conductors.items c.fans.offsets.items c.fans.devices.items c.floor c.ceiling };
 }
 
 impl Circuit {
@@ -43,12 +46,14 @@ impl Circuit {
         requires { IsCircuit fixed.items devices.items }
         ensures { IfOk result (λ c. c ≡ record { fixed = fixed.items; devices = devices.items }) }
     {
+        let conductors = conductors_of(alloc, &devices)?;
         let fans = fans_of(alloc, fixed.len(), &devices)?;
         let floor = lowest(&fixed);
         let ceiling = highest(&fixed);
         Ok(Circuit {
             fixed,
             devices,
+            conductors,
             fans,
             floor,
             ceiling,
@@ -87,6 +92,15 @@ impl Circuit {
         ensures sound { IsDevice (nets self.now) result.now }
     {
         &self.devices[d.0 as usize]
+    }
+
+    /// What conduction reads of a device.
+    pub fn conductor(&self, d: DevId) -> &Conductor
+        requires { d.0 < devices self.now }
+        ensures same { result.now ≡ conductor_of (device_at self.now d.0) }
+        ensures inside { IsOnNets (nets self.now) result.now }
+    {
+        &self.conductors[d.0 as usize]
     }
 
     /// The devices that read the bounds of a net, each once, in order.

@@ -1,10 +1,10 @@
 //! Whether a voltage family is closed at a device.
 ghost use Rattle.std.specs.Prelude.{◌≡◌, ◌<◌, ◌↔◌, length, IsTrue};
-ghost use Rattle.cvc_law.specs.Network.{nets, devices, IsDevice};
+ghost use Rattle.cvc_law.specs.Network.{nets, devices};
 ghost use Rattle.cvc_law.specs.Least.{Covers, IsSlotClosed, IsClosedAtNumber};
+ghost use Rattle.cvc_law.specs.Reach.{device_at};
 
-use crate::conduct::given;
-use crate::{Circuit, Device, Family, Interval, Reads};
+use crate::{Circuit, Family, Interval, Reads, gives};
 use cvc_base::DevId;
 
 /// Whether a value that a slot gave lies in the interval: even slots give a low, odd ones a high.
@@ -19,23 +19,17 @@ fn covers(interval: &Interval, slot: u8, value: i64) -> bool
 }
 
 /// Whether the family covers what this slot gives.
-fn is_slot_closed(
-    circuit: &Circuit,
-    family: &Family,
-    device: &Device,
-    slot: u8,
-    reads: &Reads,
-) -> bool
+fn is_slot_closed(circuit: &Circuit, family: &Family, d: DevId, slot: u8, reads: &Reads) -> bool
+    requires device { d.0 < devices circuit.now }
     requires slot { slot < 4 }
     requires family { length family.now ≡ nets circuit.now }
-    requires sound { IsDevice (nets circuit.now) device.now }
-    ensures { IsTrue result ↔ IsSlotClosed circuit.now family.now device.now slot reads.now }
+    ensures { IsTrue result ↔ IsSlotClosed circuit.now family.now (device_at circuit.now d.0) slot reads.now }
 {
-    let to = device.target(slot);
+    let to = circuit.conductor(d).target(slot);
     if circuit.fixed(to).is_some() {
         return true;
     }
-    match given(circuit, device, slot, reads) {
+    match gives(circuit, d, slot, reads) {
         None => true,
         Some(value) => covers(&family.interval(to), slot, value),
     }
@@ -47,10 +41,9 @@ pub fn closed_at(circuit: &Circuit, family: &Family, d: DevId) -> bool
     requires family { length family.now ≡ nets circuit.now }
     ensures { IsTrue result ↔ IsClosedAtNumber circuit.now family.now d.0 }
 {
-    let device = circuit.device(d);
-    let reads = family.reads(device);
+    let reads = family.reads(circuit.device(d));
     for slot in 0..4 {
-        if !is_slot_closed(circuit, family, device, slot, &reads) {
+        if !is_slot_closed(circuit, family, d, slot, &reads) {
             return false;
         }
     }

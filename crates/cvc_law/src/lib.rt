@@ -5,6 +5,7 @@
 mod circuit;
 mod close;
 mod conduct;
+mod conductor;
 mod device;
 mod family;
 mod fans;
@@ -15,9 +16,7 @@ mod range;
 pub use circuit::Circuit;
 pub use close::closed_at;
 pub use conduct::gives;
+pub use conductor::Conductor;
 pub use device::Device;
 pub use family::Family;
 pub use interval::{Fixed, Interval, Reads};
-
-#[cfg(test)]
-mod tests;

@@ -36,7 +36,7 @@ fn resistor() -> Device
 }
 
 // A net declared at 1200, and a resistor from there to a second net.
-fn one_resistor(alloc: Global) -> Result<Circuit, NoMemory>
+pub(crate) fn one_resistor(alloc: Global) -> Result<Circuit, NoMemory>
     ensures { IfOk result (λ c. (nets c ≡ 2) × (devices c ≡ 1)) }
 {
     let supply = Mv::new(1200).unwrap();

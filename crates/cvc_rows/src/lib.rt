@@ -4,6 +4,8 @@
 #[cfg(test)]
 mod cards;
 #[cfg(test)]
+mod conduction;
+#[cfg(test)]
 mod crew;
 #[cfg(test)]
 mod fields;
@@ -13,6 +15,8 @@ mod lexed;
 mod lines;
 #[cfg(test)]
 mod loads;
+#[cfg(test)]
+mod machine;
 #[cfg(test)]
 mod netlists;
 #[cfg(test)]

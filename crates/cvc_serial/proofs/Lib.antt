@@ -1,3 +1,4 @@
-pub mod Queues
+pub mod Depends
 pub mod Widens
 pub mod Settles
+pub mod Openings

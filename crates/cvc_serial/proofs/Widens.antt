@@ -2,7 +2,7 @@
 use Rattle.std.proofs.Common.{◌≡◌, ℕ, zero, suc, ◌+◌, ◌*◌, ◌%◌, ◌/◌, ◌<◌, ◌≤◌, Bool, true, false, cond, Some, List, length, get_or, inl, inr, arith, sym, ap, ◌∙◌, subst}
 use Rattle.std.proofs.lemmas.Bool.{cases_order}
 use Rattle.std.proofs.lemmas.List.{length-set, get_or-set_other, get_or-set_same, get_or_read}
-use Rattle.std.specs.Prelude.{Option, ℤ, pos, ◌≤ℤ◌, slice_index, slice_set, IfSome, is_some}
+use Rattle.std.specs.Prelude.{◌==◌, Option, ℤ, pos, ◌≤ℤ◌, slice_index, slice_set, IfSome, is_some}
 use Rattle.cvc_base.specs.declared.ids.NetId.{NetId}
 use Rattle.cvc_law.specs.declared.interval.Interval.{Interval}
 use Rattle.cvc_law.specs.declared.interval.Reads.{Reads}
@@ -17,6 +17,7 @@ use Rattle.cvc_law.proofs.ReachConduct.{given_in_range, reaches_covered, covers_
 use Rattle.cvc_law.proofs.ReachFamilies.{reach_at, reaches-set_low, reaches-set_high}
 use Rattle.cvc_law.proofs.ReachAgree.{gives_on_family}
 use Rattle.cvc_law.proofs.ReachWidening.{dec_eq}
+use Rattle.cvc_serial.specs.declared.pending.Pending.{Pending}
 use Rattle.cvc_serial.specs.declared.widen.Widening.{Widening}
 use Rattle.cvc_serial.specs.Widening.{with_bound, IsWidening}
 use Rattle.cvc_serial.specs.Settling.{IsTried}
@@ -76,7 +77,7 @@ family_set c f n k v inside free range family = let i = with_bound (interval_at 
 -- ---- a widening
 -- the bounds with the interval of a widening
 abbrev pub widened_by : List Interval → Widening → List Interval
-widened_by f w = slice_set f w.net.0 w.interval
+widened_by f w = slice_set f w.bound.net.0 w.interval
 
 pub record Widens (c : Network) (f : List Interval) (d : Device) (k : ℕ) (w : Widening) : Type 0 where
   pub family : IsFamily c (widened_by f w)
@@ -114,13 +115,14 @@ slot_covered c f d k net v i r x at inside there reads gave is covers = λ w fre
     let same : v ≡ w = cc in
     subst (λ (z : ℤ). Covers (interval_at f (target d k)) k z) same (subst (λ (j : Interval). Covers j k v) (found_interval f d k net i at inside there) covers)
 
-pub slot_widens : (c : Network) (f : List Interval) (d : Device) (k : ℕ) (net : NetId) (v : ℤ) (i wide : Interval) (r : Reads) (x : Option ℤ)
-    → net.0 ≡ target d k → net.0 < length f → i ≡ get_or f net.0 i → r ≡ reads_of f d → x ≡ given c d k r → x ≡ Some v → is_declared c net.0 ≡ false → (wide ≡ with_bound i k v) × (Covers i k v → ⊥) → IsWidening c f d k record { net = net; interval = wide }
-slot_widens c f d k net v i wide r x at inside there reads gave is free more =
+pub slot_widens : (c : Network) (f : List Interval) (d : Device) (k : ℕ) (net : NetId) (b : Pending) → b.net ≡ net → b.is_high ≡ (k % 2 == 1) → (v : ℤ) (i wide : Interval) (r : Reads) (x : Option ℤ)
+    → net.0 ≡ target d k → net.0 < length f → i ≡ get_or f net.0 i → r ≡ reads_of f d → x ≡ given c d k r → x ≡ Some v → is_declared c net.0 ≡ false → (wide ≡ with_bound i k v) × (Covers i k v → ⊥) → IsWidening c f d k record { bound = b; interval = wide }
+slot_widens c f d k net b of side v i wide r x at inside there reads gave is free more =
     let found : i ≡ interval_at f (target d k) = found_interval f d k net.0 i at inside there in
     record {
       value = v;
-      net = at;
+      net = ap (λ (n : NetId). n.0) of ∙ at;
+      side = side;
       free = ap (is_declared c) (sym at) ∙ free;
       is_given = gave_on_family c f d k v r x reads gave is;
       not_covered = λ covers. more.1 (subst (λ (j : Interval). Covers j k v) (sym found) covers);

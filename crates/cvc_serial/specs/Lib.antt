@@ -1,4 +1,5 @@
-pub mod Queue
+pub mod Pending
 pub mod Widening
 pub mod Settling
+pub mod Opening
 pub mod TestCircuits

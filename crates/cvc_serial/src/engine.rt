@@ -1,20 +1,24 @@
-//! The bounds found so far, and the devices still to try.
-ghost use Rattle.std.specs.Prelude.{◌≡◌, ◌<◌, ◌+◌, IfOk, map};
+//! The bounds found so far, and those of them that wait.
+ghost use Rattle.std.specs.Prelude.{◌≡◌, ◌<◌, ◌≤◌, ◌∷◌, IfOk, OnOk, map, false};
+ghost use Rattle.std.specs.BinaryHeap.{heap_items};
 ghost use Rattle.cvc_law.specs.Network.{nets, devices, fixed_at, IsCircuit};
-ghost use Rattle.cvc_law.specs.Reach.{declared_interval};
-ghost use Rattle.cvc_serial.specs.Settling.{AreConductingWaiting, IsSettling, IsProgress};
+ghost use Rattle.cvc_law.specs.Reach.{declared_interval, device_at};
+ghost use Rattle.cvc_serial.specs.Pending.{Rests};
+ghost use Rattle.cvc_serial.specs.Settling.{IsTried, IsReached, IsSettling, IsOnward, AreTriedFor, work_left};
+ghost use Rattle.cvc_serial.specs.Opening.{AreDeclaredWaiting};
 
-use crate::waiting::{Waiting, push_all};
+use crate::pending::Pending;
 use crate::widen::widening_of;
 use cvc_base::{DevId, NetId, NoMemory};
 use cvc_law::{Circuit, Interval};
 use std::alloc::Global;
+use std::collections::BinaryHeap;
 
-/// What is known of each net, and the devices that may widen it.
+/// What is known of each net, and the bounds that wait until the slots that depend on them are tried.
 #[derive(Drop)]
 pub(crate) struct Engine {
     pub(crate) bounds: Vec<Interval>,
-    pub(crate) waiting: Waiting,
+    pub(crate) waiting: BinaryHeap<Pending>,
 }
 
 /// What is known of a net by its declaration alone.
@@ -49,53 +53,70 @@ fn opening(alloc: Global, circuit: &Circuit) -> Result<Vec<Interval>, NoMemory>
     Ok(bounds)
 }
 
-/// Every device that can hand a voltage on, in order.
-fn conducting(alloc: Global, circuit: &Circuit) -> Result<Waiting, NoMemory>
-    ensures waiting { IfOk result (AreConductingWaiting circuit.now) }
+/// Both bounds of each declared net.
+fn declared_bounds(alloc: Global, circuit: &Circuit) -> Result<BinaryHeap<Pending>, NoMemory>
+    ensures waiting { IfOk result (λ waiting. AreDeclaredWaiting circuit.now (heap_items waiting)) }
     ensures circuit { IsCircuit circuit.now.fixed circuit.now.devices }
 {
-    let mut waiting = Waiting::none(alloc, circuit.devices())?;
-    for d in 0..circuit.devices() {
-        if circuit.device(DevId(d)).conducts() {
-            waiting.push(DevId(d));
+    let mut waiting = BinaryHeap::new(alloc);
+    for n in 0..circuit.nets() {
+        if let Some(fixed) = circuit.fixed(NetId(n)) {
+            waiting.push(Pending::new(NetId(n), false, fixed.low))?;
+            waiting.push(Pending::new(NetId(n), true, fixed.high))?;
         }
     }
     Ok(waiting)
 }
 
 impl Engine {
-    /// The bounds as declared, and every device waiting that can hand a voltage on. It takes all its memory here.
+    /// The bounds as declared, and each of them waiting.
     pub(crate) fn new(alloc: Global, circuit: &Circuit) -> Result<Engine, NoMemory>
-        ensures { IfOk result (λ e. IsSettling circuit.now e.bounds.items e.waiting 0 4) }
+        ensures { IfOk result (λ e. IsSettling circuit.now e.bounds.items (heap_items e.waiting)) }
     {
         let bounds = opening(alloc, circuit)?;
-        let waiting = conducting(alloc, circuit)?;
+        let waiting = declared_bounds(alloc, circuit)?;
         Ok(Engine { bounds, waiting })
     }
 
-    /// Widens what a slot of the device widens, and lets the devices wait that read the net.
-    fn try_slot(&mut self, circuit: &Circuit, d: DevId, slot: u8)
+    /// Widens the bound that a slot of the device widens, and lets it wait.
+    fn try_slot(&mut self, circuit: &Circuit, d: DevId, slot: u8) -> Result<(), NoMemory>
         requires device { d.0 < devices circuit.now }
         requires slot { slot < 4 }
-        requires settling { IsSettling circuit.now self.old.bounds.items self.old.waiting d.0 slot }
-        ensures settling { IsSettling circuit.now self.new.bounds.items self.new.waiting d.0 (slot + 1) }
-        ensures progress { IsProgress circuit.now self.old.bounds.items self.old.waiting self.new.bounds.items self.new.waiting }
+        requires reached { IsReached circuit.now self.old.bounds.items (heap_items self.old.waiting) }
+        ensures onward { OnOk result (IsOnward circuit.now self.old.bounds.items (heap_items self.old.waiting) self.new.bounds.items (heap_items self.new.waiting)) }
+        ensures tried { OnOk result (Rests circuit.now (heap_items self.new.waiting) d.0 slot → IsTried circuit.now self.new.bounds.items (device_at circuit.now d.0) slot) }
     {
         if let Some(found) = widening_of(circuit, &self.bounds, d, slot) {
-            self.bounds[found.net.0 as usize] = found.interval;
-            push_all(&mut self.waiting, circuit.fan(found.net));
+            self.bounds[found.bound.net.0 as usize] = found.interval;
+            self.waiting.push(found.bound)?;
         }
+        Ok(())
     }
 
-    /// Tries each slot of the device.
-    pub(crate) fn visit(&mut self, circuit: &Circuit, d: DevId)
+    /// Tries each slot of the device that depends on the bound.
+    fn try_device(&mut self, circuit: &Circuit, d: DevId, bound: Pending) -> Result<(), NoMemory>
         requires device { d.0 < devices circuit.now }
-        requires settling { IsSettling circuit.now self.old.bounds.items self.old.waiting d.0 0 }
-        ensures settling { IsSettling circuit.now self.new.bounds.items self.new.waiting d.0 4 }
-        ensures progress { IsProgress circuit.now self.old.bounds.items self.old.waiting self.new.bounds.items self.new.waiting }
+        requires reached { IsReached circuit.now self.old.bounds.items (heap_items self.old.waiting) }
+        ensures onward { OnOk result (IsOnward circuit.now self.old.bounds.items (heap_items self.old.waiting) self.new.bounds.items (heap_items self.new.waiting)) }
+        ensures tried { OnOk result (AreTriedFor circuit.now self.new.bounds.items (heap_items self.new.waiting) bound d.0) }
     {
         for slot in 0..4 {
-            self.try_slot(circuit, d, slot);
+            if bound.moves(circuit.conductor(d), slot) {
+                self.try_slot(circuit, d, slot)?;
+            }
         }
+        Ok(())
+    }
+
+    /// Tries each slot that depends on a bound that was taken.
+    pub(crate) fn visit(&mut self, circuit: &Circuit, bound: Pending) -> Result<(), NoMemory>
+        requires { IsSettling circuit.now self.old.bounds.items (bound ∷ heap_items self.old.waiting) }
+        ensures settling { OnOk result (IsSettling circuit.now self.new.bounds.items (heap_items self.new.waiting)) }
+        ensures work { OnOk result (work_left circuit.now self.new.bounds.items (heap_items self.new.waiting) ≤ work_left circuit.now self.old.bounds.items (heap_items self.old.waiting)) }
+    {
+        for d in circuit.fan(bound.net) {
+            self.try_device(circuit, *d, bound)?;
+        }
+        Ok(())
     }
 }

@@ -2,8 +2,8 @@
 #![tactic(auto)]
 
 mod engine;
+mod pending;
 mod settle;
-mod waiting;
 mod widen;
 
 pub use settle::settle_serial;

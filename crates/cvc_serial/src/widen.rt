@@ -6,13 +6,14 @@ ghost use Rattle.cvc_law.specs.Least.{reads_of, Covers, IsSlotClosed};
 ghost use Rattle.cvc_law.specs.Reach.{device_at};
 ghost use Rattle.cvc_serial.specs.Widening.{with_bound, IsWidening};
 
-use cvc_base::{DevId, Mv, NetId};
+use crate::pending::Pending;
+use cvc_base::{DevId, Mv};
 use cvc_law::{Circuit, Interval, Reads, gives};
 
-/// A net and what is to be known of it.
+/// A bound that is to be widened, and what is then known of its net.
 #[derive(Clone, Copy)]
 pub(crate) struct Widening {
-    pub(crate) net: NetId,
+    pub(crate) bound: Pending,
     pub(crate) interval: Interval,
 }
 
@@ -72,13 +73,14 @@ pub(crate) fn widening_of(
     ensures none { IfNone result (IsSlotClosed circuit.now bounds.now (device_at circuit.now d.0) slot (reads_of bounds.now (device_at circuit.now d.0))) }
     ensures some { IfSome result (IsWidening circuit.now bounds.now (device_at circuit.now d.0) slot) }
 {
-    let device = circuit.device(d);
-    let net = device.target(slot);
+    let conductor = circuit.conductor(d);
+    let net = conductor.target(slot);
     if circuit.fixed(net).is_some() {
         return None;
     }
-    let reads = device.reads(bounds);
+    let reads = conductor.reads(bounds);
     let value = given(circuit, d, slot, &reads)?;
     let interval = widened(bounds[net.0 as usize], slot, value)?;
-    Some(Widening { net, interval })
+    let bound = Pending::new(net, slot % 2 == 1, value);
+    Some(Widening { bound, interval })
 }

@@ -1,14 +1,17 @@
-use Rattle.std.proofs.Common.{List, Bool, subst, sym}
+use Rattle.std.proofs.Common.{◌≡◌, length, sym, arith, subst}
+use Rattle.std.specs.BinaryHeap.{heap_items}
 use Rattle.cvc_law.specs.Least.{IsLeast}
-use Rattle.cvc_serial.specs.Settling.{IsProgress}
-use Rattle.cvc_serial.proofs.Settles.{work_falls, settled}
+use Rattle.cvc_serial.proofs.Settles.{settling_popped, work_falls, settled}
 use Rattle.cvc_serial.proofs.settle.settle_serial.Goals as goal
 
-pub loop-d-smaller : goal.loop-d-smaller
-loop-d-smaller c =
-    let taken = c.in-Some.ensures.next in
-    let progress = subst (λ (m : List Bool). IsProgress c.args.circuit.now c.loop-d.engine.bounds.items m c.visit.new.self.bounds.items c.visit.new.self.waiting) taken.2 c.visit.ensures.progress in
-    work_falls c.args.circuit.now c.loop-d.engine.bounds.items c.visit.new.self.bounds.items c.loop-d.engine.waiting c.visit.new.self.waiting c.in-Some.d.0 c.visit.ensures.settling.family c.loop-d.invariant.every_device c.visit.ensures.settling.every_device taken.1 progress
+pub visit-requires : goal.visit-requires
+visit-requires c = settling_popped c.args.circuit.now c.loop-bound.engine.bounds.items (heap_items c.loop-bound.engine.waiting) (heap_items c.pop.new.self) c.in-Some.bound c.in-Some.ensures.permutation c.loop-bound.invariant
+
+pub loop-bound-smaller : goal.loop-bound-smaller
+loop-bound-smaller c =
+    work_falls c.args.circuit.now c.loop-bound.engine.bounds.items c.visit.new.self.bounds.items (heap_items c.loop-bound.engine.waiting) (heap_items c.pop.new.self) (heap_items c.visit.new.self.waiting) c.in-Some.bound c.in-Some.ensures.permutation c.in_ok-visit.ensures.work
 
 pub returns : goal.returns
-returns c = subst (IsLeast c.args.circuit.now) (sym c.new-2.ensures) (settled c.args.circuit.now c.loop-d.engine.bounds.items c.loop-d.engine.waiting 0 c.loop-d.invariant c.in_default.ensures.none.1)
+returns c =
+    let none : length (heap_items c.loop-bound.engine.waiting) ≡ 0 = omega (arith, c.in_default.ensures.none) in
+    subst (IsLeast c.args.circuit.now) (sym c.new-2.ensures) (settled c.args.circuit.now c.loop-bound.engine.bounds.items (heap_items c.loop-bound.engine.waiting) c.loop-bound.invariant none)

@@ -1,9 +1,9 @@
-use Rattle.cvc_serial.specs.Settling.{IsSettling}
-use Rattle.cvc_serial.proofs.Settles.{work_left}
+use Rattle.std.specs.BinaryHeap.{heap_items}
+use Rattle.cvc_serial.specs.Settling.{IsSettling, work_left}
 use Rattle.cvc_serial.proofs.settle.settle_serial.Given as goal
 
-abbrev pub invariant-loop-d : goal.invariant-loop-d
-invariant-loop-d l = IsSettling l.circuit l.engine.bounds.items l.engine.waiting 0 4
+abbrev pub invariant-loop-bound : goal.invariant-loop-bound
+invariant-loop-bound l = IsSettling l.circuit l.engine.bounds.items (heap_items l.engine.waiting)
 
-abbrev pub decreases-loop-d : goal.decreases-loop-d
-decreases-loop-d l = work_left l.circuit l.engine.bounds.items l.engine.waiting
+abbrev pub decreases-loop-bound : goal.decreases-loop-bound
+decreases-loop-bound l = work_left l.circuit l.engine.bounds.items (heap_items l.engine.waiting)
