@@ -1,6 +1,7 @@
 -- A netlist that is read in pieces: what a piece, and the end, decide of it.
-use Rattle.std.proofs.Common.{◌≡◌, ℕ, All, true, false, List, [], ◌++◌, length, Option, Some, None, Result, Ok, Err, refl, sym, ap, subst, ◌∙◌, append-nil, append_assoc}
+use Rattle.std.proofs.Common.{◌≡◌, ℕ, All, true, false, List, [], ◌++◌, length, take, drop, Option, Some, None, Result, Ok, Err, refl, sym, ap, subst, ◌∙◌, append-nil, append_assoc}
 use Rattle.std.specs.Prelude.{IfOk, OnOk}
+use Rattle.std.proofs.lemmas.List.{take-append-drop}
 use Rattle.cvc_base.specs.Answers.{Gives, IfAt, Refuses, refusal_in}
 use Rattle.cvc_base.specs.declared.fault.Fault.{Fault}
 use Rattle.cvc_base.specs.declared.fault.FileKind.{FileKind}
@@ -189,6 +190,21 @@ reads_nothing r stands fresh built none = record {
   lines = stands;
   cards = ([], refl, (none, built));
 }
+
+-- what is decided stays so, whatever follows
+pub decided_longer : (stream later : List ℕ) (x : Refusal) → IfAt {A = Unit {0}} (Err x) (IsDecided stream) → IfAt {A = Unit {0}} (Err x) (IsDecided (stream ++ later))
+decided_longer stream later (At fault) h = λ more top. ap (λ b. file_of b top) (append_assoc stream later more) ∙ h (later ++ more) top
+decided_longer stream later NoMemory h = tt
+
+-- the next piece goes behind what was read
+pub piece_behind : (text fed rest piece later : List ℕ) (n : ℕ) → text ≡ fed ++ rest → piece ≡ take n rest → later ≡ drop n rest → text ≡ (fed ++ piece) ++ later
+piece_behind text fed rest piece later n split front back =
+    split ∙ ap (λ r. fed ++ r) (sym (take-append-drop n rest) ∙ ap (λ p. p ++ drop n rest) (sym front) ∙ ap (λ l. piece ++ l) (sym back))
+    ∙ sym (append_assoc fed piece later)
+
+-- a fault that is decided by a front of a text is decided by the text
+pub decided_by_front : (text front later : List ℕ) (x : Refusal) → text ≡ front ++ later → IfAt {A = Unit {0}} (Err x) (IsDecided front) → IfAt {A = Unit {0}} (Err x) (IsDecided text)
+decided_by_front text front later x split h = subst (λ t. IfAt {A = Unit {0}} (Err x) (IsDecided t)) (sym split) (decided_longer front later x h)
 
 -- a text is decided by itself
 pub text_stopped : (bytes : List ℕ) (top : Option (List ℕ)) (x : Refusal) → IfAt {A = Unit {0}} (Err x) (IsDecided bytes) → Gives {A = Netlist} (λ n. n) (Err x) (file_of bytes top)

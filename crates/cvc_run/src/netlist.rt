@@ -89,7 +89,22 @@ impl NetlistReader {
     }
 }
 
-/// The netlist of these bytes, or its first fault.
+// Feeds the reader with a whole text, in pieces.
+fn feed_text(text: &[u8], reader: &mut NetlistReader) -> Result<(), Refusal>
+    requires fresh { HasRead reader.old [] }
+    ensures read { OnOk result (HasRead reader.new text.now) }
+    ensures decided { IfAt result (IsDecided text.now) }
+{
+    let mut rest = text;
+    'pieces: while !rest.is_empty() {
+        let (piece, later) = rest.split_at(rest.len().min(PIECE));
+        reader.feed(piece)?;
+        rest = later;
+    }
+    Ok(())
+}
+
+/// The netlist of these bytes, or its first fault. The lines of one piece are held at a time.
 pub(crate) fn netlist_of(
     alloc: Global,
     bytes: &[u8],
@@ -99,7 +114,7 @@ pub(crate) fn netlist_of(
     ensures well_formed { IfOk result IsWellFormed }
 {
     let mut reader = NetlistReader::new(alloc)?;
-    reader.feed(bytes)?;
+    feed_text(bytes, &mut reader)?;
     reader.finish(top)
 }
 
