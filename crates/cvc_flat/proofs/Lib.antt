@@ -8,6 +8,8 @@ pub mod Stripping
 pub mod Naming
 pub mod Pieces
 pub mod Finding
+pub mod Hashing
+pub mod Hashed
 pub mod Numbering
 pub mod Growing
 pub mod Stack

@@ -48,6 +48,19 @@ find_none : {A : Type 0} (p : A → Bool) (xs : List A) (d : A) → ((j : ℕ) �
 find_none p [] d never = refl
 find_none p (x ∷ xs) d never = ap (λ b. cond b (Some x) (find p xs)) (never 0 (omega arith)) ∙ find_none p xs d (λ j b. never (suc j) (omega arith))
 
+-- the names on the way to a child
+pub child_names : (names : List (List ℕ)) (parts : List InstancePart) (rows : List InstanceRow) → IsTree rows → (up i : ℕ) (name : List ℕ) → IsChild names parts rows up name i
+    → names_on names parts (way_at (ways_of rows) i) ≡ name ∷ names_on names parts (way_at (ways_of rows) up)
+child_names names parts rows tree up zero name child = absurd (omega (arith, child.above))
+child_names names parts rows tree up (suc j) name child =
+    let below : j < length rows = omega (arith, child.inside) in
+    let one : suc j ≡ j + 1 = omega arith in
+    let at : way_at (ways_of rows) (suc j) ≡ way_in (ways_of rows) (get_or rows j no_row) = ap (way_at (ways_of rows)) one ∙ way_step rows j below (tree.parents j below) in
+    let row : suc j - 1 ≡ j = omega arith in
+    let first : (link_at names parts (get_or rows j no_row).card).name ≡ name = ap (λ n. (link_at names parts (get_or rows n no_row).card).name) (sym row) ∙ child.named in
+    let parent : (get_or rows j no_row).parent ≡ up = ap (λ n. (get_or rows n no_row).parent) (sym row) ∙ child.parent in
+    ap (names_on names parts) at ∙ (λ k. first k ∷ names_on names parts (way_at (ways_of rows) (parent k)))
+
 module _ (names : List (List ℕ)) (parts : List InstancePart) (rows : List InstanceRow) (tree : IsTree rows)
     (apart : (i j : ℕ) → i ≤ length rows → j ≤ length rows → names_on names parts (way_at (ways_of rows) i) ≡ names_on names parts (way_at (ways_of rows) j) → i ≡ j)
     (f : FlatList) (is : f.instances ≡ map (path_of names parts) (drop 1 (ways_of rows))) where
@@ -123,17 +136,6 @@ module _ (names : List (List ℕ)) (parts : List InstancePart) (rows : List Inst
   nothing_behind own up [] none = refl
   nothing_behind own up (name ∷ []) none = ap (option_map (λ p. net_of f.globals p name)) (unnamed own up none)
   nothing_behind own up (name ∷ more ∷ rest) none = nothing_behind name (own ∷ up) (more ∷ rest) (deeper name own up none)
-
-  pub child_names : (up i : ℕ) (name : List ℕ) → IsChild names parts rows up name i → on i ≡ name ∷ on up
-  child_names up zero name child = absurd (omega (arith, child.above))
-  child_names up (suc j) name child =
-      let below : j < length rows = omega (arith, child.inside) in
-      let one : suc j ≡ j + 1 = omega arith in
-      let at : way_at (ways_of rows) (suc j) ≡ way_in (ways_of rows) (get_or rows j no_row) = ap (way_at (ways_of rows)) one ∙ way_step rows j below (tree.parents j below) in
-      let row : suc j - 1 ≡ j = omega arith in
-      let first : (link_at names parts (get_or rows j no_row).card).name ≡ name = ap (λ n. (link_at names parts (get_or rows n no_row).card).name) (sym row) ∙ child.named in
-      let parent : (get_or rows j no_row).parent ≡ up = ap (λ n. (get_or rows n no_row).parent) (sym row) ∙ child.parent in
-      ap (names_on names parts) at ∙ (λ k. first k ∷ on (parent k))
 
   pub no_child : (up : ℕ) (name : List ℕ) → up ≤ length rows → ((i : ℕ) → IsChild names parts rows up name i → ⊥) → NoneHas (name ∷ on up)
   unfolding tail_of head_of

@@ -10,6 +10,8 @@ pub mod Answers
 pub mod Held
 pub mod Names
 pub mod Tables
+pub mod Hashes
+pub mod Finder
 pub mod Resolving
 pub mod Plans
 pub mod Levels

@@ -1,12 +1,15 @@
 //! Nets by their printed names.
-ghost use Rattle.std.specs.Prelude.{◌≡◌, ◌+◌, ◌<◌, ◌≤◌, ◌^◌, [], All, IfSome, drop, length, map, position, take};
+ghost use Rattle.std.specs.Prelude.{◌≡◌, ◌+◌, ◌<◌, ◌≤◌, ◌^◌, [], All, IfSome, drop, length, map, position, take, true};
 ghost use Rattle.std.specs.Option.{option_and_then};
 ghost use Rattle.std.specs.Str.{bytes_eq};
 ghost use Rattle.cvc_flat.specs.FindNet.{is_slash, net_named, number_among, number_printed, pieces, printed_net};
+ghost use Rattle.cvc_flat.specs.Finder.{IsFinder, way_hash};
 ghost use Rattle.cvc_flat.specs.Flat.{FlatList};
-ghost use Rattle.cvc_flat.specs.Resolving.{AreNames, ChildOf, is_row};
+ghost use Rattle.cvc_flat.specs.Resolving.{AreNames, ChildOf, IsChild};
 ghost use Rattle.cvc_flat.specs.Tables.{AreWaysApart, IsTree, net_at, path_of, ways_of};
 
+use crate::finder::{Finder, net_hash};
+use crate::hashes::{EMPTY, Hashes, hash_on};
 use crate::names::Names;
 use crate::resolve::net_row;
 use crate::rows::{InstancePart, InstanceRow, NetRow};
@@ -52,21 +55,44 @@ pub(crate) fn first_printed(
     parts: &[InstancePart],
     instances: &[InstanceRow],
     nets: &[NetRow],
+    finder: &Finder,
     text: &[u8],
 ) -> Option<usize>
     requires tree { IsTree instances.now }
     requires cards { All (λ r. r.card < length parts.now) instances.now }
     requires parts { All (λ p. p.name < length names.now) parts.now }
     requires nets { All (λ r. (r.instance ≤ length instances.now) × (r.name < length names.now)) nets.now }
+    requires finder { IsFinder names.now parts.now instances.now nets.now finder.now }
     ensures inside { IfSome result (λ k. k < length nets.now) }
     ensures place { result ≡ number_printed (map (net_at names.now parts.now (ways_of instances.now)) nets.now) text.now }
 {
-    for (place, row) in nets.iter().enumerate() {
-        if is_printed(names, parts, instances, *row, text) {
-            return Some(place);
-        }
+    let hash = hash_on(EMPTY, text);
+    finder.nets.find(hash, |place| {
+        is_printed(names, parts, instances, nets[place], text)
+    })
+}
+
+// Whether an instance has this parent and this name. The top is instance 0.
+fn is_child(
+    names: &Names,
+    parts: &[InstancePart],
+    instances: &[InstanceRow],
+    up: u32,
+    name: &[u8],
+    instance: usize,
+) -> bool
+    requires cards { All (λ r. r.card < length parts.now) instances.now }
+    requires parts { All (λ p. p.name < length names.now) parts.now }
+    requires inside { instance ≤ length instances.now }
+    ensures yes { result ≡ true → IsChild names.now parts.now instances.now up name.now instance }
+    ensures no { IsChild names.now parts.now instances.now up name.now instance → result ≡ true }
+{
+    if instance == 0 {
+        return false;
     }
-    None
+    let row = instances[instance - 1];
+    let part = &parts[row.card as usize];
+    row.parent == up && names.get(part.name as usize) == name
 }
 
 // The instance of a name in an instance.
@@ -74,21 +100,24 @@ fn child_of(
     names: &Names,
     parts: &[InstancePart],
     instances: &[InstanceRow],
+    hashes: &Hashes,
     up: u32,
     name: &[u8],
 ) -> Option<u32>
+    requires tree { IsTree instances.now }
     requires cards { All (λ r. r.card < length parts.now) instances.now }
     requires parts { All (λ p. p.name < length names.now) parts.now }
     requires limit { length instances.now ≤ 1000000 }
+    requires hashes { hashes.now ≡ map (way_hash names.now parts.now) (ways_of instances.now) }
+    requires inside { up ≤ length instances.now }
     ensures { ChildOf names.now parts.now instances.now up name.now result }
 {
-    for (place, row) in instances.iter().enumerate() {
-        let part = &parts[row.card as usize];
-        if row.parent == up && names.get(part.name as usize) == name {
-            return Some(place as u32 + 1);
-        }
-    }
-    None
+    let own = hash_on(hashes.get(up as usize), name);
+    let hash = hash_on(own, b"/");
+    let child = hashes.find(hash, |instance| {
+        is_child(names, parts, instances, up, name, instance)
+    })?;
+    Some(child as u32)
 }
 
 // Where the first `/` stands.
@@ -100,15 +129,6 @@ fn first_slash(text: &[u8]) -> Option<usize>
     text.iter().position(|byte| *byte == b'/')
 }
 
-// The place of a net.
-fn place_of_row(nets: &[NetRow], row: NetRow) -> Option<usize>
-    ensures inside { IfSome result (λ k. k < length nets.now) }
-    ensures place { result ≡ position (is_row row) nets.now }
-{
-    nets.iter()
-        .position(|net| row.instance == net.instance && row.name == net.name)
-}
-
 // The net that the pieces of a text name: instances from the top on, and a name there.
 pub(crate) fn first_named(
     globals: usize,
@@ -116,6 +136,7 @@ pub(crate) fn first_named(
     parts: &[InstancePart],
     instances: &[InstanceRow],
     nets: &[NetRow],
+    finder: &Finder,
     text: &[u8],
 ) -> Option<usize>
     requires tree { IsTree instances.now }
@@ -125,16 +146,25 @@ pub(crate) fn first_named(
     requires nets { All (λ r. (r.instance ≤ length instances.now) × (r.name < length names.now)) nets.now }
     requires limit { length instances.now ≤ 1000000 }
     requires name_limit { length names.now < 2 ^ 32 }
+    requires finder { IsFinder names.now parts.now instances.now nets.now finder.now }
     ensures inside { IfSome result (λ k. k < length nets.now) }
     ensures place { (f : FlatList) → f.globals ≡ take globals names.now → f.instances ≡ map (path_of names.now parts.now) (drop 1 (ways_of instances.now)) → result ≡ option_and_then (number_among (map (net_at names.now parts.now (ways_of instances.now)) nets.now)) (net_named f [] (pieces text.now)) }
 {
     let mut up = 0;
     let mut rest = text;
     while let Some(place) = first_slash(rest) {
-        up = child_of(names, parts, instances, up, &rest[..place])?;
+        up = child_of(
+            names,
+            parts,
+            instances,
+            &finder.instances,
+            up,
+            &rest[..place],
+        )?;
         rest = &rest[place + 1..];
     }
     let name = names.find(rest)?;
     let row = net_row(globals, parts, instances, up, name as u32);
-    place_of_row(nets, row)
+    let hash = net_hash(names, &finder.instances, row);
+    finder.nets.find(hash, |place| row == nets[place])
 }

@@ -8,6 +8,7 @@ ghost use Rattle.cvc_flat.specs.FindNet.{find_net, printed_net};
 ghost use Rattle.cvc_flat.specs.Held.{device, net, IsGroup, printed_device};
 
 use crate::find::{first_named, first_printed};
+use crate::finder::Finder;
 use crate::names::Names;
 use crate::rows::{DevicePart, DeviceRow, Group, InstancePart, InstanceRow, NetRow};
 use crate::way::write_path;
@@ -30,9 +31,11 @@ pub struct Flat {
     pub(crate) instances: Vec<InstanceRow>,
     pub(crate) devices: Vec<DeviceRow>,
     pub(crate) nets: Vec<NetRow>,
+    pub(crate) finder: Finder,
 }
 
 impl Model for Flat {
+    ghost use Rattle.cvc_flat.specs.Finder.{IsFinder};
     ghost use Rattle.cvc_flat.specs.Held.{Held};
     ghost use Rattle.cvc_flat.specs.Tables.{held_of, IsSound};
 
@@ -40,7 +43,7 @@ impl Model for Flat {
 
     ghost view = { λ f. held_of (record { top = f.top; names = f.names; globals = f.globals; parts = f.parts.items; cards = f.cards.items; groups = f.groups.items; instances = f.instances.items; devices = f.devices.items; nets = f.nets.items }) };
 
-    ghost invariant = { λ f. IsSound (record { top = f.top; names = f.names; globals = f.globals; parts = f.parts.items; cards = f.cards.items; groups = f.groups.items; instances = f.instances.items; devices = f.devices.items; nets = f.nets.items }) };
+    ghost invariant = { λ f. IsSound (record { top = f.top; names = f.names; globals = f.globals; parts = f.parts.items; cards = f.cards.items; groups = f.groups.items; instances = f.instances.items; devices = f.devices.items; nets = f.nets.items }) × IsFinder f.names f.parts.items f.instances.items f.nets.items f.finder };
 }
 
 impl Flat {
@@ -151,7 +154,14 @@ impl Flat {
         ensures inside { IfSome result (λ k. k < 1000000) }
         ensures place { result ≡ find_net self.now.list name.now }
     {
-        match first_printed(&self.names, &self.parts, &self.instances, &self.nets, name) {
+        match first_printed(
+            &self.names,
+            &self.parts,
+            &self.instances,
+            &self.nets,
+            &self.finder,
+            name,
+        ) {
             Some(place) => Some(place),
             None => first_named(
                 self.globals,
@@ -159,13 +169,15 @@ impl Flat {
                 &self.parts,
                 &self.instances,
                 &self.nets,
+                &self.finder,
                 name,
             ),
         }
     }
 
     /// The net of a name: the first net that is printed so; else the net that the pieces of the name between `/` lead to, instances from the top
-    /// on and a name in the last of them. `None` exactly where an instance is missing or the net is not in the list.
+    /// on and a name in the last of them. `None` exactly where an instance is missing or the net is not in the list. It is looked up by the hash of
+    /// the name.
     pub fn find_net(&self, name: &[u8]) -> Option<NetId>
         ensures { option_map (λ n. n.0) result ≡ find_net self.now.list name.now }
     {

@@ -4,7 +4,9 @@
 
 mod cards;
 mod find;
+mod finder;
 mod flat;
+mod hashes;
 mod level;
 mod names;
 mod nets;

@@ -42,8 +42,8 @@ impl NetTable {
     }
 
     // Its nets, in order.
-    pub(crate) fn rows(&self, alloc: Global) -> Result<Vec<NetRow>, NoMemory>
-        ensures { IfOk result (λ rows. rows.items ≡ self.now) }
+    pub(crate) fn into_rows(self, alloc: Global) -> Result<Vec<NetRow>, NoMemory>
+        ensures { IfOk result (λ rows. rows.items ≡ self) }
     {
         Ok(Vec::from_slice(alloc, self.set.as_slice())?)
     }

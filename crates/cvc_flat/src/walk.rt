@@ -12,6 +12,7 @@ ghost use Rattle.cvc_flat.specs.Tables.{IsSound, held_of};
 
 use crate::Flat;
 use crate::cards::{ItemPlan, Plan, cell_of, plan_of};
+use crate::finder::Finder;
 use crate::level::Level;
 use crate::nets::NetTable;
 use crate::pair_lists::lists_of;
@@ -144,8 +145,15 @@ fn list_of(alloc: Global, netlist: &Netlist, plan: Plan, walked: Walked) -> Resu
     ensures { IfOk result (λ flat. flat ≡ held_of (tables_of netlist.now plan walked.instances.items walked.made)) }
 {
     let top = top_name(alloc, &netlist.top)?;
-    let nets = walked.made.nets.rows(alloc)?;
     let Walked { instances, made } = walked;
+    let nets = made.nets.into_rows(alloc)?;
+    let finder = Finder::of(
+        alloc,
+        &plan.cards.names,
+        &plan.cards.parts,
+        &instances,
+        &nets,
+    )?;
     Ok(Flat {
         top,
         names: plan.cards.names,
@@ -156,6 +164,7 @@ fn list_of(alloc: Global, netlist: &Netlist, plan: Plan, walked: Walked) -> Resu
         instances,
         devices: made.devices,
         nets,
+        finder,
     })
 }
 
