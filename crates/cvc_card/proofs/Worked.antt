@@ -162,7 +162,7 @@ row-29 : card_of_texts false 7 (codes "R1" ∷ codes "a" ∷ codes "b" ∷ codes
 unfolding number_of scale_of split_of exponent_at form_of items_of parts_of card_from device_of instance_of nets_of cell_of globals_of
 row-29 = refl
 
--- D1 a b $[]]
+-- a diode whose model is named by a bracket that closes
 row-30 : card_of_texts false 7 (codes "D1" ∷ codes "a" ∷ codes "b" ∷ codes "$[]]" ∷ []) ≡ Ok (cards.Device record { letter = D; name = codes "D1"; nets = (codes "a" ∷ codes "b" ∷ []); model = codes "]"; pairs = []; line = 7 })
 unfolding number_of scale_of split_of exponent_at form_of items_of parts_of card_from device_of instance_of nets_of cell_of globals_of
 row-30 = refl
@@ -252,7 +252,7 @@ row-47 : card_of_texts false 7 (codes "R1" ∷ codes "a" ∷ codes "b" ∷ codes
 unfolding number_of scale_of split_of exponent_at form_of items_of parts_of card_from device_of instance_of nets_of cell_of globals_of
 row-47 = refl
 
--- D1 a b 1
+-- a diode whose model is a number
 row-48 : card_of_texts false 7 (codes "D1" ∷ codes "a" ∷ codes "b" ∷ codes "1" ∷ []) ≡ Ok (cards.Device record { letter = D; name = codes "D1"; nets = (codes "a" ∷ codes "b" ∷ []); model = codes "1"; pairs = []; line = 7 })
 unfolding number_of scale_of split_of exponent_at form_of items_of parts_of card_from device_of instance_of nets_of cell_of globals_of
 row-48 = refl
