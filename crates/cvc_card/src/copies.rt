@@ -12,6 +12,7 @@ pub(crate) fn copied_texts(alloc: Global, texts: &[&[u8]]) -> Result<Texts, NoMe
     ensures { IfOk result (λ copies. copies ≡ texts_held texts.now) }
 {
     let mut copies = Texts::new(alloc);
+    copies.reserve(texts.len())?;
     for text in texts {
         copies.push(Text::of(alloc, text)?)?;
     }
@@ -36,6 +37,7 @@ pub(crate) fn copied_pairs(
     ensures { IfOk result (λ copies. copies ≡ option_to_list (option_map pair_of first.entry) ++ pairs_held pairs.now) }
 {
     let mut copies = Pairs::new(alloc);
+    copies.reserve(pairs.len() + usize::from(first.is_some()))?;
     if let Some(pair) = first {
         copies.push(copied_pair(alloc, &pair)?)?;
     }

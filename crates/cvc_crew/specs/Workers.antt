@@ -24,7 +24,8 @@ next_of Worked = GoOn
 next_of Idle = Pause
 next_of Quiet = End
 
--- ---- hands in places
+-- ## Hands in places
+
 -- the place's hand is of the field, and has at most so many numbers
 abbrev pub IsHandIn : Field → ℕ → Option HandView → Type 0
 IsHandIn f most place = IfSome place (λ h. IsHandOf f h × (h.numbers ≤ most))
