@@ -1,7 +1,6 @@
 -- The names of the cells stay known, card by card.
-use Rattle.std.proofs.Common.{◌≡◌, ℕ, List, [], ◌∷◌, ◌++◌, map, Option, Some, None, Result, Ok, refl, sym, ap, subst, ◌∙◌}
+use Rattle.std.proofs.Common.{◌≡◌, ℕ, List, [], ◌∷◌, ◌++◌, map, Option, Some, None, refl, sym, ap, subst, ◌∙◌}
 use Rattle.std.proofs.lemmas.List.{append-nil, map-append}
-use Rattle.cvc_base.specs.declared.cause.Cause.{Cause}
 use Rattle.cvc_base.specs.declared.param.Pair.{Pair}
 use Rattle.cvc_card.specs.declared.card.Card.{Card}
 use Rattle.cvc_card.specs.declared.card.Card.TheVariants.{Device, Inst, Subckt, Ends, Global, Params, Ignored}
@@ -13,7 +12,7 @@ use Rattle.cvc_cdl.specs.declared.netlist.Item.TheVariants as items
 use Rattle.cvc_cdl.specs.Levels.{Level}
 use Rattle.cvc_cdl.specs.Netlist.{name_of_cell}
 use Rattle.cvc_cdl.specs.Builder.{Draft}
-use Rattle.cvc_cdl.specs.Drafting.{AreNamed, Becomes, begun_cell, cell_with_item, cell_with_pairs, cells_held, draft_held, in_last, with_card, with_item, with_pairs}
+use Rattle.cvc_cdl.specs.Drafting.{AreNamed, begun_cell, cell_with_item, cell_with_pairs, cells_held, draft_held, in_last, with_card, with_item, with_pairs}
 
 in_last-names : (f : Cell → Cell) → ((c : Cell) → (f c).name ≡ c.name) → (cs : List Cell) → map name_of_cell (in_last f cs) ≡ map name_of_cell cs
 in_last-names f same [] = refl
