@@ -46,7 +46,10 @@ pub(crate) fn net_hash(names: &Names, ways: &Hashes, row: NetRow) -> u32
     requires name { row.name < length names.now }
     ensures { result ≡ hash_on (slice_index_or ways.now row.instance 0) (text names.now row.name) }
 {
-    hash_on(ways.get(row.instance as usize), names.get(row.name as usize))
+    hash_on(
+        ways.get(row.instance as usize),
+        names.get(row.name as usize),
+    )
 }
 
 impl Finder {

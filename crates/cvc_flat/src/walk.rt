@@ -145,24 +145,25 @@ fn list_of(alloc: Global, netlist: &Netlist, plan: Plan, walked: Walked) -> Resu
     ensures { IfOk result (λ flat. flat ≡ held_of (tables_of netlist.now plan walked.instances.items walked.made)) }
 {
     let top = top_name(alloc, &netlist.top)?;
+    let globals = plan.globals;
+    let cards = plan.cards;
     let Walked { instances, made } = walked;
-    let nets = made.nets.into_rows(alloc)?;
-    let finder = Finder::of(
-        alloc,
-        &plan.cards.names,
-        &plan.cards.parts,
-        &instances,
-        &nets,
-    )?;
+    let Made {
+        nets,
+        devices,
+        groups,
+    } = made;
+    let nets = nets.into_rows(alloc)?;
+    let finder = Finder::of(alloc, &cards.names, &cards.parts, &instances, &nets)?;
     Ok(Flat {
         top,
-        names: plan.cards.names,
-        globals: plan.globals,
-        parts: plan.cards.parts,
-        cards: plan.cards.devices,
-        groups: made.groups,
+        names: cards.names,
+        globals,
+        parts: cards.parts,
+        cards: cards.devices,
+        groups,
         instances,
-        devices: made.devices,
+        devices,
         nets,
         finder,
     })
