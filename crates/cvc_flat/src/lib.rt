@@ -5,7 +5,9 @@
 mod cards;
 mod find;
 mod flat;
+mod known;
 mod level;
+mod lookups;
 mod names;
 mod nets;
 mod pair_index;
@@ -16,6 +18,7 @@ mod plan;
 mod printing;
 mod resolve;
 mod rows;
+mod shared;
 mod steps;
 mod walk;
 mod way;
