@@ -26,4 +26,5 @@ mod walk;
 mod way;
 
 pub use flat::Flat;
+pub use printing::Pieces;
 pub use walk::flatten;
