@@ -4,7 +4,6 @@ pub use Rattle.cvc_names.specs.Names.{has_twice}
 use Rattle.std.specs.Prelude.{ℕ, ◌-◌, Bool, true, false, ◌==◌, ◌&&◌, ◌||◌, not, nat_lt, List, [], ◌∷◌, ◌++◌, length, take, drop, map, Option, Some, None, Result, Ok, Err, if◌then◌else◌, codes, unwrap_or}
 use Rattle.std.specs.Option.{option_map, option_to_list}
 use Rattle.std.specs.List.{filter, find, list_any, before_first, after_first}
-use Rattle.std.specs.Str.{bytes_eq}
 use Rattle.cvc_base.specs.declared.cause.Cause.{Cause}
 use Rattle.cvc_base.specs.declared.cause.Cause.TheVariants.{UnknownCard, BadPins, ShortCard}
 use Rattle.cvc_base.specs.declared.line.Line.{Line}

@@ -1,5 +1,5 @@
 -- Whole files, computed.
-use Rattle.std.specs.Prelude.{◌≡◌, ℕ, List, [], ◌∷◌, ◌++◌, codes, Result, Ok, Err, pos, refl}
+use Rattle.std.specs.Prelude.{◌≡◌, [], ◌∷◌, ◌++◌, codes, Ok, Err, pos, refl}
 use Rattle.cvc_base.specs.declared.cause.Cause.TheVariants.{BadByte, BadRow, BadVoltage, MinAboveMax, TwiceRow}
 use Rattle.cvc_base.specs.declared.fault.FileKind.TheVariants.{Power}
 use Rattle.cvc_lex.specs.Physical.{ended, open_rest, physical, text_of, cut, shape_of, tokens_from, read}

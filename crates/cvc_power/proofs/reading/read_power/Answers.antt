@@ -1,4 +1,4 @@
-use Rattle.std.proofs.Common.{◌≡◌, ◌∙◌, [], None, Err, subst, arith}
+use Rattle.std.proofs.Common.{◌≡◌, ◌∙◌, None, Err, subst, arith}
 use Rattle.std.proofs.lemmas.Result.{err_from_is_err_and}
 use Rattle.cvc_base.specs.declared.fault.FileKind.{FileKind}
 use Rattle.cvc_base.specs.declared.fault.FileKind.TheVariants.{Power}

@@ -1,4 +1,4 @@
-use Rattle.std.proofs.Common.{◌≡◌, List, [], map, length}
+use Rattle.std.proofs.Common.{◌≡◌, List, map, length}
 use Rattle.cvc_base.specs.declared.line.Line.{Line}
 use Rattle.cvc_base.specs.Verdicts.{rows_or_fault}
 use Rattle.cvc_lex.specs.Judged.{said, verdicts}

@@ -1,4 +1,4 @@
-use Rattle.std.proofs.Common.{rules, ◌<◌, ◌≤◌, length}
+use Rattle.std.proofs.Common.{rules}
 use Rattle.cvc_power.proofs.Spans.{is_power, no_power, is_input, no_input, too_few, too_many}
 use Rattle.cvc_power.proofs.row.span_of.Goals as goal
 use Rattle.cvc_power.proofs.row.span_of.Goals.{in_default-via-then-tokens-lt3, in_default-via-in-len3+else-is_word, in_default-via-in-len4+else-is_word-2, in_default-via-else-tokens-lt3+else-tokens-lt4+else-tokens-lt5}
