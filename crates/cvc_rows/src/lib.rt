@@ -20,6 +20,8 @@ mod netlists;
 #[cfg(test)]
 mod rules;
 #[cfg(test)]
+mod settling;
+#[cfg(test)]
 mod threads;
 #[cfg(test)]
 mod top_outside;
