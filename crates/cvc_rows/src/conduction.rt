@@ -8,7 +8,7 @@ use std::process::Abort;
 use std::test::Fail;
 
 /// The circuit of these declared bounds and cards, which must be one.
-fn circuit(alloc: Global, declared: &[Bounds], cards: &[Card]) -> Result<Circuit, Fail> {
+pub(crate) fn circuit(alloc: Global, declared: &[Bounds], cards: &[Card]) -> Result<Circuit, Fail> {
     match circuit_of(alloc, declared, cards, cards.len())? {
         Some(circuit) => Ok(circuit),
         None => Err(Fail::new("no circuit")),
@@ -164,12 +164,7 @@ fn model_of(kind: Kind) -> Model {
 }
 
 /// What the slot of a circuit's one device gives.
-fn given_by_one(
-    alloc: Global,
-    kind: Kind,
-    slot: u8,
-    reads: &Reads,
-) -> Result<Option<i64>, Fail> {
+fn given_by_one(alloc: Global, kind: Kind, slot: u8, reads: &Reads) -> Result<Option<i64>, Fail> {
     let declared = [within(0, 5000), UNKNOWN, UNKNOWN, UNKNOWN];
     let card = Card {
         model: model_of(kind),

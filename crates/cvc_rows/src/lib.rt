@@ -24,6 +24,8 @@ mod printed;
 #[cfg(test)]
 mod rules;
 #[cfg(test)]
+mod settling;
+#[cfg(test)]
 mod threads;
 #[cfg(test)]
 mod top_outside;

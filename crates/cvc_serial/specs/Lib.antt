@@ -2,4 +2,3 @@ pub mod Pending
 pub mod Widening
 pub mod Settling
 pub mod Opening
-pub mod TestCircuits

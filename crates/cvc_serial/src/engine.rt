@@ -54,15 +54,16 @@ fn opening(alloc: Global, circuit: &Circuit) -> Result<Vec<Interval>, NoMemory>
 }
 
 /// Both bounds of each declared net.
+#[tactic(auto, using(crate::proofs::Openings::none_waiting))]
 fn declared_bounds(alloc: Global, circuit: &Circuit) -> Result<BinaryHeap<Pending>, NoMemory>
     ensures waiting { IfOk result (λ waiting. AreDeclaredWaiting circuit.now (heap_items waiting)) }
     ensures circuit { IsCircuit circuit.now.fixed circuit.now.devices }
 {
     let mut waiting = BinaryHeap::new(alloc);
-    for n in 0..circuit.nets() {
-        if let Some(fixed) = circuit.fixed(NetId(n)) {
-            waiting.push(Pending::new(NetId(n), false, fixed.low))?;
-            waiting.push(Pending::new(NetId(n), true, fixed.high))?;
+    for net in 0..circuit.nets() {
+        if let Some(fixed) = circuit.fixed(NetId(net)) {
+            waiting.push(Pending::new(NetId(net), false, fixed.low))?;
+            waiting.push(Pending::new(NetId(net), true, fixed.high))?;
         }
     }
     Ok(waiting)

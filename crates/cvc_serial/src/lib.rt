@@ -7,6 +7,3 @@ mod settle;
 mod widen;
 
 pub use settle::settle_serial;
-
-#[cfg(test)]
-mod tests;
