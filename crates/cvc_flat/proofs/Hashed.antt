@@ -1,6 +1,6 @@
 -- The hashes of printed names, and what is found by them.
-use Rattle.std.proofs.Common.{◌≡◌, ℕ, ◌+◌, ◌%◌, ◌*◌, ◌^◌, ◌<◌, ◌≤◌, ◌==◌, Bool, true, false, cond, List, [], ◌∷◌, ◌++◌, length, map, get_or, take, refl, sym, ap, subst, ◌∙◌, arith}
-use Rattle.std.specs.Prelude.{All, Option, Some, None, bit_xor, codes, nat_lt, position}
+use Rattle.std.proofs.Common.{◌≡◌, ℕ, ◌+◌, ◌%◌, ◌*◌, ◌^◌, ◌<◌, ◌≤◌, ◌==◌, Bool, true, false, cond, List, [], ◌∷◌, ◌++◌, length, map, get_or, take, refl, sym, ap, ◌∙◌, arith}
+use Rattle.std.specs.Prelude.{Option, Some, None, bit_xor, codes, nat_lt, position}
 use Rattle.std.specs.List.{position_or_len}
 use Rattle.std.specs.Str.{bytes_eq}
 use Rattle.std.specs.Cmp.Lexicographic.{bytes_decides}
@@ -19,7 +19,7 @@ use Rattle.cvc_flat.specs.Resolving.{ChildOf, IsChild, is_row}
 use Rattle.cvc_flat.specs.Tables.{IsTree, Way, link_at, names_on, net_at, no_row, text, way_at, way_in, ways_from, ways_of}
 use Rattle.cvc_flat.proofs.Naming.{child_names}
 use Rattle.cvc_flat.proofs.Stripping.{front_more, printed_split}
-use Rattle.cvc_flat.proofs.Ways.{length_ways, way_top, ways_append}
+use Rattle.cvc_flat.proofs.Ways.{length_ways, ways_append}
 use Rattle.cvc_flat.proofs.Writing.{link_is}
 
 -- ## Hashes
