@@ -88,10 +88,10 @@ def tree(files, scale):
 
 
 def parts(files, scale):
-    """4,000 rings of 100 resistors that meet nowhere, each with a supply of its own."""
-    rings = scale(4_000)
-    pairs = ((100 * ring + i, 100 * ring + (i + 1) % 100) for ring in range(rings) for i in range(100))
-    files.write(resistors(pairs), ["R resistor\n"], (f"n{100 * ring} input 0 {1 + ring % 3}\n" for ring in range(rings)))
+    """100 rings of 4,000 resistors that meet nowhere, each with a supply of its own."""
+    size = scale(4_000)
+    pairs = ((size * ring + i, size * ring + (i + 1) % size) for ring in range(100) for i in range(size))
+    files.write(resistors(pairs), ["R resistor\n"], (f"n{size * ring} input 0 {1 + ring % 3}\n" for ring in range(100)))
     return files.all_ways()
 
 
