@@ -35,6 +35,9 @@ seconds = time.perf_counter() - started
 print([os.waitstatus_to_exitcode(status), seconds, usage.ru_utime + usage.ru_stime, usage.ru_maxrss])
 """
 
+# The status of a run that was ended after the limit.
+ENDED = -9
+
 
 class Files:
     """The three files of a check in a folder."""
@@ -296,21 +299,21 @@ def measured(limit, answer, words):
 
 
 def compared(commands, words, runs, limit, folder):
-    """Interleaves the runs of the commands on some words. Answers the status and the medians of each, and whether all answered the same."""
+    """Interleaves the runs of the commands on some words. Answers the status and the medians of each, and whether all that ended answered the same."""
     answers = [os.path.join(folder, f"answer{k}") for k in range(len(commands))]
     samples = [[] for _ in commands]
-    same = True
+    late = set()
     for run in range(runs):
         for k in (*range(run % len(commands), len(commands)), *range(run % len(commands))):
-            if samples[k] and samples[k][0][0] == -9:
-                continue
-            samples[k].append(measured(limit, answers[k], commands[k] + words))
-    ended = [k for k in range(len(commands)) if samples[k][0][0] != -9]
-    for k in ended:
-        same &= len({sample[0] for sample in samples[k]}) == 1 and samples[k][0][0] == samples[ended[0]][0][0]
-        same &= filecmp.cmp(answers[k], answers[ended[0]], shallow=False)
+            if k not in late:
+                samples[k].append(measured(limit, answers[k], commands[k] + words))
+                if samples[k][-1][0] == ENDED:
+                    late.add(k)
+    ended = [k for k in range(len(commands)) if k not in late]
+    same = len({sample[0] for k in ended for sample in samples[k]}) <= 1
+    same = same and all(filecmp.cmp(answers[k], answers[ended[0]], shallow=False) for k in ended)
     medians = [[statistics.median(sample[i] for sample in taken) for i in range(1, 4)] for taken in samples]
-    return [(taken[0][0], *median) for taken, median in zip(samples, medians)], same
+    return [(ENDED if k in late else samples[k][0][0], *medians[k]) for k in range(len(commands))], same
 
 
 def counted(report):
@@ -371,7 +374,7 @@ def main():
                 medians, same = compared(options.commands, words, options.runs, options.limit, folder)
                 line = f"{workload.__name__:14} {shown(words, folder):20} {medians[0][0]:2}"
                 for k, (status, seconds, cpu, peak) in enumerate(medians):
-                    ended = f"{seconds * 1000:8.1f} {cpu * 1000:8.1f}" if status != -9 else f"{'> limit':>8} {'':8}"
+                    ended = f"{seconds * 1000:8.1f} {cpu * 1000:8.1f}" if status != ENDED else f"{'> limit':>8} {'':8}"
                     line += f" |{ended} {peak / 1024:7.1f}"
                     if k > 0:
                         first = medians[0]
