@@ -8,15 +8,23 @@ mod crew;
 #[cfg(test)]
 mod fields;
 #[cfg(test)]
+mod flat_lists;
+#[cfg(test)]
 mod lines;
 #[cfg(test)]
 mod loads;
+#[cfg(test)]
+mod made;
 #[cfg(test)]
 mod netlists;
 #[cfg(test)]
 mod rules;
 #[cfg(test)]
 mod threads;
+#[cfg(test)]
+mod top_hostile;
+#[cfg(test)]
+mod top_limits;
 #[cfg(test)]
 mod top_outside;
 #[cfg(test)]
