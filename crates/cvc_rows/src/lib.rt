@@ -10,6 +10,8 @@ mod crew;
 #[cfg(test)]
 mod fields;
 #[cfg(test)]
+mod flat_lists;
+#[cfg(test)]
 mod lexed;
 #[cfg(test)]
 mod lines;
@@ -17,6 +19,8 @@ mod lines;
 mod loads;
 #[cfg(test)]
 mod machine;
+#[cfg(test)]
+mod made;
 #[cfg(test)]
 mod netlists;
 #[cfg(test)]
@@ -27,6 +31,10 @@ mod rules;
 mod settling;
 #[cfg(test)]
 mod threads;
+#[cfg(test)]
+mod top_hostile;
+#[cfg(test)]
+mod top_limits;
 #[cfg(test)]
 mod top_outside;
 #[cfg(test)]

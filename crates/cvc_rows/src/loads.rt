@@ -1,6 +1,7 @@
 ghost use Rattle.std.specs.Prelude.{◌≡◌, ◌≤◌, None};
 ghost use Rattle.cvc_io.specs.Memory.{standing_of};
 
+use crate::made::bad_byte_and_comments;
 use cvc_base::{Cause, Fault, FileKind, NoMemory, Text};
 use cvc_io::MemShelf;
 use cvc_run::{Design, LoadFault, load_design, load_file};
@@ -77,14 +78,26 @@ fn a_fault_of_the_first_piece_is_answered_before_the_next_is_read(
     rt: HostRuntime,
 ) -> Result<(), Fail> {
     let alloc = rt.alloc();
-    let mut netlist = Vec::from_slice(alloc, b"R\x01 a b 1\n")?;
-    for _ in 0..20_000u32 {
-        netlist.extend_from_slice(b"* comment\n")?;
-    }
+    let netlist = bad_byte_and_comments(alloc)?;
     let mut shelf = MemShelf::new(alloc);
     shelf.add(b"n", &netlist)?;
     shelf.fail_at(3)?;
     let fault = designed(alloc, &mut shelf)?.err();
     assert!(rt; fault == Some(LoadFault::At(Fault::at(FileKind::Netlist, 1, Cause::BadByte))));
+    Ok(())
+}
+
+#[test]
+fn a_design_has_the_flat_list_and_the_rows(rt: HostRuntime) -> Result<(), Fail> {
+    let alloc = rt.alloc();
+    let mut shelf = MemShelf::new(alloc);
+    shelf.add(b"n", b"R1 a b 1\n")?;
+    shelf.add(b"m", b"R resistor\n")?;
+    let Ok(design) = designed(alloc, &mut shelf)? else {
+        return Err("not loaded".into());
+    };
+    assert_eq!(rt; design.flat.devices(), 1);
+    assert_eq!(rt; design.flat.nets(), 2);
+    assert_eq!(rt; design.models.len(), 1);
     Ok(())
 }

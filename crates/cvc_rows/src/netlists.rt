@@ -1,3 +1,4 @@
+use crate::made::nested_cells;
 use cvc_base::Cause::{
     self, EndsName, NestedSubckt, NoTop, OpenSubckt, PortCount, Recursive, StrayEnds, TwiceCell,
     TwiceName, TwicePort, UnknownCell, UnknownPort,
@@ -182,21 +183,9 @@ fn parts_of_a_netlist(rt: HostRuntime) -> Result<(), Fail> {
     Ok(())
 }
 
-// So many cells, each with an instance of the one before it.
-fn chain_of_cells(alloc: Global, count: u32) -> Result<Vec<u8>, Fail> {
-    let mut text = Vec::new(alloc);
-    text.extend_from_slice(b".SUBCKT c0 p\nR1 p VSS 1\n.ENDS\n")?;
-    for i in 1..count {
-        let before = i - 1;
-        let cell = format!(in alloc; ".SUBCKT c{i} p\nX1 p c{before}\n.ENDS\n")?;
-        text.extend_from_slice(cell.as_bytes())?;
-    }
-    Ok(text)
-}
-
 #[test]
 fn a_chain_of_a_hundred_thousand_cells(rt: HostRuntime) -> Result<(), Fail> {
-    let text = chain_of_cells(rt.alloc(), 100_000)?;
+    let text = nested_cells(rt.alloc(), 100_000)?;
     let Ok(netlist) = read(rt.alloc(), &text, Some(b"c99999")) else {
         return Err("refused".into());
     };

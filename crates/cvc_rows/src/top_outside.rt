@@ -1,19 +1,29 @@
 //! Refused words, faults of the outside, and generated circuits.
 
-use crate::top_runs::{RESISTOR, ROOM, Row, expect_words, shelf_of, texts_of};
+use crate::top_reports::INVERTERS;
+use crate::top_runs::{RESISTOR, ROOM, Row, expect_words, shelf_of, texts_of, words_of};
+use cvc_base::{NoMemory, Texts};
 use cvc_io::MemShelf;
+use std::alloc::Global;
+use std::process::Abort;
+use std::sync::Wait;
 use std::test::Fail;
+use std::thread::Threads;
 
+// A resistor hands a supply on.
 const HANDS_ON: Row = Row {
     netlist: b"R1 VDD n1 100\n",
     models: RESISTOR,
     power: b"VDD power 1.2\n",
-    options: &[],
+    options: &[b"nets"],
     status: 0,
     text: b"CVC report\ntop - devices 1 nets 2 declared 1\nnet VDD declared 1200 1200\nnet n1 1200 1200\nerrors 0\n",
 };
 
-const WITH_NETS: [&[u8]; 5] = [b"check", b"n", b"m", b"p", b"nets"];
+// The words that check a row's files.
+fn check_of(alloc: Global, row: &Row) -> Result<Texts, NoMemory> {
+    words_of(alloc, b"check", &[b"n", b"m", b"p"], row.options)
+}
 
 // Refused words open no file: the shelf's first call would fail.
 #[test]
@@ -59,39 +69,67 @@ fn refused_words(rt: HostRuntime) -> Result<(), Fail> {
     Ok(())
 }
 
-// The row opens and reads nine times: each file is opened, read, and read at its end.
+// A row opens and reads nine times: each file is opened, read, and read at its end. Each of the calls fails in turn.
+fn expect_read_faults<R: Abort + Threads + Wait + Sync>(
+    rt: &R,
+    alloc: Global,
+    row: &Row,
+) -> Result<(), NoMemory> {
+    let words = check_of(alloc, row)?;
+    for call in 1..10u64 {
+        let mut shelf = shelf_of(alloc, row)?;
+        shelf.fail_at(call)?;
+        expect_words(rt, alloc, &words, &mut shelf, ROOM, 7, b"")?;
+    }
+    let mut shelf = shelf_of(alloc, row)?;
+    shelf.fail_at(10)?;
+    expect_words(rt, alloc, &words, &mut shelf, ROOM, row.status, row.text)
+}
+
+// The sink has each room below the length of the report, and then just that room.
+fn expect_write_faults<R: Abort + Threads + Wait + Sync>(
+    rt: &R,
+    alloc: Global,
+    row: &Row,
+) -> Result<(), NoMemory> {
+    let words = check_of(alloc, row)?;
+    for room in 0..row.text.len() {
+        let mut shelf = shelf_of(alloc, row)?;
+        let front = &row.text[..room];
+        expect_words(rt, alloc, &words, &mut shelf, room, 8, front)?;
+    }
+    let mut shelf = shelf_of(alloc, row)?;
+    let room = row.text.len();
+    expect_words(rt, alloc, &words, &mut shelf, room, row.status, row.text)
+}
+
 #[test]
 fn read_faults(rt: HostRuntime) -> Result<(), Fail> {
     let alloc = rt.alloc();
-    let words = texts_of(alloc, &WITH_NETS)?;
-    for call in 1..10u64 {
-        let mut shelf = shelf_of(alloc, &HANDS_ON)?;
-        shelf.fail_at(call)?;
-        expect_words(&rt, alloc, &words, &mut shelf, ROOM, 7, b"")?;
-    }
-    let mut shelf = shelf_of(alloc, &HANDS_ON)?;
-    shelf.fail_at(10)?;
-    expect_words(&rt, alloc, &words, &mut shelf, ROOM, 0, HANDS_ON.text)?;
+    expect_read_faults(&rt, alloc, &HANDS_ON)?;
     // A file that the shelf lacks.
+    let words = check_of(alloc, &HANDS_ON)?;
     let mut shelf = MemShelf::new(alloc);
     shelf.add(b"n", HANDS_ON.netlist)?;
     expect_words(&rt, alloc, &words, &mut shelf, ROOM, 7, b"")?;
     Ok(())
 }
 
-// Each room below the length of the report, and just that room.
 #[test]
 fn write_faults(rt: HostRuntime) -> Result<(), Fail> {
-    let alloc = rt.alloc();
-    let words = texts_of(alloc, &WITH_NETS)?;
-    for room in 0..HANDS_ON.text.len() {
-        let mut shelf = shelf_of(alloc, &HANDS_ON)?;
-        let front = &HANDS_ON.text[..room];
-        expect_words(&rt, alloc, &words, &mut shelf, room, 8, front)?;
-    }
-    let mut shelf = shelf_of(alloc, &HANDS_ON)?;
-    let room = HANDS_ON.text.len();
-    expect_words(&rt, alloc, &words, &mut shelf, room, 0, HANDS_ON.text)?;
+    expect_write_faults(&rt, rt.alloc(), &HANDS_ON)?;
+    Ok(())
+}
+
+// Instances and globals, by two workers.
+#[test]
+fn faults_of_a_hierarchy_by_workers(rt: HostRuntime) -> Result<(), Fail> {
+    let row = Row {
+        options: &[b"nets", b"workers=2"],
+        ..INVERTERS
+    };
+    expect_read_faults(&rt, rt.alloc(), &row)?;
+    expect_write_faults(&rt, rt.alloc(), &row)?;
     Ok(())
 }
 

@@ -1,11 +1,9 @@
 //! Refused files: one line and its status each.
 
-use crate::top_runs::{HV, RESISTOR, Row, expect_files, expect_rows};
-use cvc_io::MemShelf;
-use std::alloc::{AllocError, Global};
+use crate::top_runs::{HV, RESISTOR, Row, expect_rows};
 use std::test::Fail;
 
-const NO_FILES: Row = Row {
+pub(super) const NO_FILES: Row = Row {
     netlist: b"",
     models: b"",
     power: b"",
@@ -187,101 +185,94 @@ fn binding_refusals(rt: HostRuntime) -> Result<(), Fail> {
             text: b"refused netlist line 2 no-model\n",
             ..refused
         },
+        // The letter decides which kinds serve.
+        Row {
+            netlist: b"M1 d g s b dp",
+            text: b"refused netlist line 1 wrong-kind\n",
+            ..refused
+        },
+        Row {
+            netlist: b"L1 a b R",
+            text: b"refused netlist line 1 wrong-kind\n",
+            ..refused
+        },
     ];
     expect_rows(&rt, rt.alloc(), &rows)?;
     Ok(())
 }
 
-// ## Limits
-
-// Cells, each of which has an instance of the one before it.
-fn nested_cells(alloc: Global, cells: u32) -> Result<Vec<u8>, AllocError> {
-    let mut netlist = Vec::from_slice(alloc, b".SUBCKT c0 p\nR1 p VSS 1\n.ENDS\n")?;
-    for below in 0..cells.saturating_sub(1) {
-        let cell = format!(in alloc; ".SUBCKT c{} p\nX1 p c{}\n.ENDS\n", below + 1, below)?;
-        netlist.extend_from_slice(cell.as_bytes())?;
-    }
-    Ok(netlist)
-}
-
-// Cells, each of which has two instances of the one before it.
-fn doubled_cells(alloc: Global, cells: u32) -> Result<Vec<u8>, AllocError> {
-    let mut netlist = Vec::from_slice(alloc, b".SUBCKT c0 p\n.ENDS\n")?;
-    for below in 0..cells.saturating_sub(1) {
-        let cell = format!(in alloc;
-            ".SUBCKT c{} p\nX1 p c{}\nX2 p c{}\n.ENDS\n",
-            below + 1,
-            below,
-            below
-        )?;
-        netlist.extend_from_slice(cell.as_bytes())?;
-    }
-    Ok(netlist)
-}
-
-// A resistor with a name of so many bytes.
-fn long_name(alloc: Global, len: usize) -> Result<Vec<u8>, AllocError> {
-    let mut netlist = Vec::from_slice(alloc, b"R1 a ")?;
-    netlist.extend_from_slice(&vec![in alloc; b'n'; len]?)?;
-    netlist.extend_from_slice(b" 1")?;
-    Ok(netlist)
-}
-
+// Devices in their order come before all power rows. A card is told by its first line, a row by its own.
 #[test]
-fn recursion_and_depth(rt: HostRuntime) -> Result<(), Fail> {
-    let alloc = rt.alloc();
-    let netlist = nested_cells(alloc, 66)?;
-    for (top, status, text) in [
-        (
-            b"top=c64".as_slice(),
-            0,
-            b"CVC report\ntop c64 devices 1 nets 2 declared 0\nerrors 0\n".as_slice(),
-        ),
-        (b"top=c65", 3, b"refused netlist line 5 too-deep\n"),
-    ] {
-        let mut shelf = MemShelf::new(alloc);
-        shelf.add(b"n", &netlist)?;
-        shelf.add(b"m", RESISTOR)?;
-        shelf.add(b"p", b"")?;
-        expect_files(&rt, alloc, &mut shelf, &[top], status, text)?;
-    }
+fn binding_refusals_in_order(rt: HostRuntime) -> Result<(), Fail> {
+    let refused = Row {
+        netlist: b"R1 a b 1\nM1 d g s b zz",
+        models: HV,
+        power: b"c power 1",
+        options: &[],
+        status: 6,
+        text: b"refused netlist line 2 no-model\n",
+    };
+    let rows = [
+        refused,
+        Row {
+            netlist: b"R1 a b 1\nD1 a b nhv\nM1 d g s b zz",
+            text: b"refused netlist line 2 wrong-kind\n",
+            ..refused
+        },
+        Row {
+            netlist: b"* c\nR1 a b\n+ 1\nR2 a b\n\n+ zz",
+            text: b"refused netlist line 4 no-model\n",
+            ..refused
+        },
+        Row {
+            netlist: b"R1 a b 1",
+            power: b"# c\na power 1\n\nb power 1\nc power 1",
+            text: b"refused power line 5 unknown-net\n",
+            ..refused
+        },
+    ];
+    expect_rows(&rt, rt.alloc(), &rows)?;
     Ok(())
 }
 
+// A test that is reached and meets a word refuses, also where a later row would do.
 #[test]
-fn doubling_cells(rt: HostRuntime) -> Result<(), Fail> {
-    let alloc = rt.alloc();
-    let netlist = doubled_cells(alloc, 26)?;
-    let mut shelf = MemShelf::new(alloc);
-    shelf.add(b"n", &netlist)?;
-    shelf.add(b"m", b"")?;
-    shelf.add(b"p", b"")?;
-    let text = b"refused netlist line 4 too-many-instances\n";
-    expect_files(&rt, alloc, &mut shelf, &[b"top=c25"], 3, text)?;
-    Ok(())
-}
-
-#[test]
-fn token_and_file_limits(rt: HostRuntime) -> Result<(), Fail> {
-    let alloc = rt.alloc();
-    for (len, status, text) in [
-        (
-            1024,
-            0,
-            b"CVC report\ntop - devices 1 nets 2 declared 0\nerrors 0\n".as_slice(),
-        ),
-        (1025, 3, b"refused netlist line 1 long-token\n"),
-    ] {
-        let mut shelf = MemShelf::new(alloc);
-        shelf.add(b"n", &long_name(alloc, len)?)?;
-        shelf.add(b"m", RESISTOR)?;
-        shelf.add(b"p", b"")?;
-        expect_files(&rt, alloc, &mut shelf, &[], status, text)?;
-    }
-    let mut shelf = MemShelf::new(alloc);
-    shelf.add(b"n", b"")?;
-    shelf.add(b"m", &vec![in alloc; b'\n'; 16_777_217]?)?;
-    let text = b"refused models line 16777217 file-too-long\n";
-    expect_files(&rt, alloc, &mut shelf, &[], 4, text)?;
+fn words_and_tests_in_order(rt: HostRuntime) -> Result<(), Fail> {
+    let refused = Row {
+        netlist: b"M1 d g s b n L=foo",
+        models: b"n nmos Vth=0.4 L<1\nn nmos Vth=0.4",
+        power: b"",
+        options: &[],
+        status: 6,
+        text: b"refused netlist line 1 param-text\n",
+    };
+    let rows = [
+        refused,
+        Row {
+            models: b"n nmos Vth=0.4\nn nmos Vth=0.4 L<1",
+            status: 1,
+            text: b"CVC report\ntop - devices 1 nets 4 declared 0\nfloating-gate M1 n net g\nerrors 1\n",
+            ..refused
+        },
+        // The later of two parameters of one name counts.
+        Row {
+            netlist: b"M1 d g s b n L=1 l=foo",
+            ..refused
+        },
+        // A test sees the parameters of the device alone.
+        Row {
+            netlist: b".PARAM L=1\nM1 d g s b n",
+            models: b"n nmos Vth=0.4 L>=1",
+            text: b"refused netlist line 2 no-model\n",
+            ..refused
+        },
+        // The first device that is refused, whatever the cause.
+        Row {
+            netlist: b"M1 d g s b n L=foo\nR1 a b n",
+            models: b"n nmos Vth=0.4 L<1",
+            ..refused
+        },
+    ];
+    expect_rows(&rt, rt.alloc(), &rows)?;
     Ok(())
 }

@@ -29,7 +29,8 @@ pub(super) struct Row {
     pub text: &'static [u8],
 }
 
-fn words_of(
+/// A command, the names of its files, and the words behind them.
+pub(super) fn words_of(
     alloc: Global,
     command: &[u8],
     names: &[&[u8]],
@@ -122,4 +123,16 @@ pub(super) fn expect_rows<R: Abort + Threads + Wait + Sync>(
         expect_files(rt, alloc, &mut shelf, row.options, row.status, row.text)?;
     }
     Ok(())
+}
+
+/// Runs a row whose netlist is this one, by `check` and by `serial`.
+pub(super) fn expect_made<R: Abort + Threads + Wait + Sync>(
+    rt: &R,
+    alloc: Global,
+    netlist: &[u8],
+    row: &Row,
+) -> Result<(), NoMemory> {
+    let mut shelf = shelf_of(alloc, row)?;
+    shelf.add(b"n", netlist)?;
+    expect_files(rt, alloc, &mut shelf, row.options, row.status, row.text)
 }
