@@ -1,9 +1,8 @@
 -- One more device in the tables.
 use Rattle.std.proofs.Common.{◌≡◌, ℕ, ◌+◌, ◌<◌, ◌≤◌, List, [], ◌∷◌, ◌++◌, length, map, take, get_or, refl, sym, ap, subst, ◌∙◌, length-append, arith}
-use Rattle.std.specs.Prelude.{All, Option, Some}
+use Rattle.std.specs.Prelude.{All, Option}
 use Rattle.std.specs.List.{filter_map}
 use Rattle.std.specs.Option.{unwrap_or}
-use Rattle.std.proofs.Math.Seq.{get_or-append_seam}
 use Rattle.std.proofs.lemmas.List.{append-nil, get_or_append_left, length-map, map-append}
 use Rattle.std.proofs.lemmas.List.Elements.{All-append}
 use Rattle.cvc_base.specs.declared.ids.NetId.{NetId}
@@ -25,6 +24,7 @@ use Rattle.cvc_flat.specs.Making.{AddsDevice, NumbersPins, Shows, known_nets, na
 use Rattle.cvc_flat.specs.Nets.{Net, global_names, names_of, net_in, net_of, path_of as path_in}
 use Rattle.cvc_flat.specs.Params.{params_in}
 use Rattle.cvc_flat.specs.Planning.{IsDevicePlan, IsPlan}
+use Rattle.cvc_flat.specs.Sharing.{TakesGroup}
 use Rattle.cvc_flat.specs.Tables.{IsDevice, IsSound, Tables, Way, device_at, group_at, names_on, net_at, no_group, part_at, path_of, text, way_at, ways_of}
 use Rattle.cvc_flat.specs.Walk.{Visit}
 use Rattle.cvc_flat.proofs.Growing.{map_alike}
@@ -57,26 +57,19 @@ pub known_length : (n : Netlist) (p : Plan) (rows : List InstanceRow) (old new :
 known_length n p rows old new within card number plan way pins is d e w =
     ap (λ ns. length (nets_once (known_nets p.cards rows old) ns)) (sym (card_nets n p way within card number plan is d e)) ∙ ap length (sym w.known) ∙ length-map new (net_at p.cards.names p.cards.parts.items (ways_of rows))
 
-group_behind : (groups : List Group) (g : Group) → group_at (groups ++ g ∷ []) (length groups) ≡ g
-group_behind groups g = get_or-append_seam groups g [] no_group
-
-module _ (n : Netlist) (p : Plan) (rows : List InstanceRow) (old new : Made) (within : Instance) (card : DeviceCard) (number : ℕ) (plan : DevicePlan) (row : DeviceRow) (group : Group)
+module _ (n : Netlist) (p : Plan) (rows : List InstanceRow) (old new : Made) (within : Instance) (card : DeviceCard) (number : ℕ) (plan : DevicePlan) (row : DeviceRow)
     (is : IsPlan n p) (d : IsDevicePlan p.cards card number plan) (formed : length card.nets ≡ net_count card.letter)
     (sound : IsSound (tables_of n p rows old)) (inside : row.instance ≤ length rows)
     (path : path_of p.cards.names p.cards.parts.items (way_at (ways_of rows) row.instance) ≡ path_in n within)
     (pins : NumbersPins p rows old.nets new.nets (names_nets p (way_at (ways_of rows) row.instance) plan.nets.items) row.pins.items)
-    (at : row.card ≡ number) (last : row.group ≡ length old.groups.items) (model : group.model ≡ plan.model)
-    (params : params_in n within card.pairs ≡ Some group.params)
-    (groups : new.groups.items ≡ old.groups.items ++ group ∷ []) (devices : new.devices.items ≡ old.devices.items ++ row ∷ [])
+    (at : row.card ≡ number) (takes : TakesGroup n within card.pairs plan.model old.groups.items new.groups.items row.group)
+    (devices : new.devices.items ≡ old.devices.items ++ row ∷ [])
     (few : length old.devices.items < 500000) (fewer : length old.groups.items ≤ length old.devices.items) (room : length new.nets ≤ 1000000) where
   abbrev ways : List Way
   ways = ways_of rows
 
   wanted : names_nets p (way_at ways row.instance) plan.nets.items ≡ pins_of n within card
   wanted = card_nets n p (way_at ways row.instance) within card number plan is d path
-
-  in_group : group_at new.groups.items row.group ≡ group
-  in_group = (λ i. group_at (groups i) (last i)) ∙ group_behind old.groups.items group
 
   of_card : part_at p.cards.devices.items row.card ≡ plan.part
   of_card = ap (part_at p.cards.devices.items) at ∙ d.part
@@ -87,8 +80,8 @@ module _ (n : Netlist) (p : Plan) (rows : List InstanceRow) (old new : Made) (wi
       let names = ap names_of path ∙ path_names n within in
       let name = ap (λ x. text p.cards.names x.name) of_card ∙ d.kept.name in
       let numbers = pins.numbers ∙ ap (map (net_id (known_nets p.cards rows new.nets))) wanted in
-      let named = ap (λ (g : Group). text p.cards.names g.model) in_group ∙ ap (text p.cards.names) model ∙ d.kept.model in
-      let values = ap (λ (g : Group). g.params) in_group ∙ sym (ap (λ (o : Option (List Param)). unwrap_or o []) params) in
+      let named = ap (text p.cards.names) takes.of_model ∙ d.kept.model in
+      let values = sym (ap (λ (o : Option (List Param)). unwrap_or o []) takes.params) in
       let line = ap (λ x. x.line) of_card ∙ d.kept.line in
       λ i. record { letter = letter i; within = names i; name = name i; pins = numbers i; model = named i; params = values i; line = line i }
 
@@ -97,8 +90,8 @@ module _ (n : Netlist) (p : Plan) (rows : List InstanceRow) (old new : Made) (wi
       let w = once_more (known_nets p.cards rows old.nets) (names_nets p (way_at ways row.instance) plan.nets.items) in
       omega (arith, ap length (pins.known ∙ w.1), length-append (known_nets p.cards rows old.nets) w.0, length-map old.nets (net_at p.cards.names p.cards.parts.items ways), length-map new.nets (net_at p.cards.names p.cards.parts.items ways))
 
-  groups_more : length new.groups.items ≡ length old.groups.items + 1
-  groups_more = omega (arith, ap length groups, length-append old.groups.items (group ∷ []))
+  groups_more : length new.groups.items ≡ length old.groups.items + length takes.more
+  groups_more = omega (arith, ap length takes.groups, length-append old.groups.items takes.more)
 
   devices_more : length new.devices.items ≡ length old.devices.items + 1
   devices_more = omega (arith, ap length devices, length-append old.devices.items (row ∷ []))
@@ -106,11 +99,10 @@ module _ (n : Netlist) (p : Plan) (rows : List InstanceRow) (old new : Made) (wi
   device_here : IsDevice (tables_of n p rows new) row
   device_here =
       let below : row.card < length p.cards.devices.items = omega (arith, at, d.inside) in
-      let grouped : row.group < length new.groups.items = omega (arith, last, groups_more) in
       let count : length row.pins.items ≡ net_count (part_at p.cards.devices.items row.card).letter =
       ap length (pins.numbers ∙ ap (map (net_id (known_nets p.cards rows new.nets))) wanted) ∙ length-map (pins_of n within card) (net_id (known_nets p.cards rows new.nets)) ∙ length-map card.nets (net_in n within)
       ∙ formed ∙ ap net_count (sym (ap (λ x. x.letter) of_card ∙ d.kept.letter)) in
-      (inside, below, grouped, count, pins.inside)
+      (inside, below, takes.inside, count, pins.inside)
 
   device_there : (r : DeviceRow) → IsDevice (tables_of n p rows old) r → IsDevice (tables_of n p rows new) r
   device_there r w =
@@ -124,8 +116,8 @@ module _ (n : Netlist) (p : Plan) (rows : List InstanceRow) (old new : Made) (wi
 
   all_groups : All (λ (g : Group). g.model < length p.cards.names) new.groups.items
   all_groups =
-      subst (All (λ (g : Group). g.model < length p.cards.names)) (sym groups)
-      (All-append (λ (g : Group). g.model < length p.cards.names) old.groups.items (group ∷ []) sound.groups (all_one (λ (g : Group). g.model < length p.cards.names) group (subst (λ k. k < length p.cards.names) (sym model) d.kept.known)))
+      subst (All (λ (g : Group). g.model < length p.cards.names)) (sym takes.groups)
+      (All-append (λ (g : Group). g.model < length p.cards.names) old.groups.items takes.more sound.groups (λ k e b. subst (λ m. m < length p.cards.names) (sym (takes.models k e b)) d.kept.known))
 
   now_sound : IsSound (tables_of n p rows new)
   now_sound = record {
@@ -141,7 +133,7 @@ module _ (n : Netlist) (p : Plan) (rows : List InstanceRow) (old new : Made) (wi
     devices = all_devices;
     nets = pins.within;
     instance_count = sound.instance_count;
-    group_count = omega (arith, groups_more, fewer, few);
+    group_count = omega (arith, groups_more, takes.few, fewer, few);
     device_count = omega (arith, devices_more, few);
     net_count = room;
   }
@@ -149,13 +141,13 @@ module _ (n : Netlist) (p : Plan) (rows : List InstanceRow) (old new : Made) (wi
   pub device_added : AddsDevice n p rows old new within card
   device_added = record {
     nets = pins.known ∙ ap (nets_once (known_nets p.cards rows old.nets)) wanted;
-    more = group ∷ [];
-    groups = groups;
+    more = takes.more;
+    groups = takes.groups;
     row = row;
     devices = devices;
     shown = shown;
     sound = now_sound;
-    counted = omega (arith, groups_more, devices_more, fewer);
+    counted = omega (arith, groups_more, takes.few, devices_more, fewer);
   }
 
 -- ## What lies behind one visit more

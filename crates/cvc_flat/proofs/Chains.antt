@@ -303,7 +303,7 @@ none_twice n p u h = by (last_text n (suc (pairs_above n p)) u) refl (has_place_
     by (Some t) e false d = refl
 
 -- with more steps the answer stays
-some_more : (n : Netlist) (k more : ℕ) (u : Use) (t : List ℕ) → last_text n k u ≡ Some t → last_text n (more + k) u ≡ Some t
+pub some_more : (n : Netlist) (k more : ℕ) (u : Use) (t : List ℕ) → last_text n k u ≡ Some t → last_text n (more + k) u ≡ Some t
 some_more n k zero u t e = subst (λ m. last_text n m u ≡ Some t) (omega arith) e
 some_more n k (suc more) u t e = subst (λ m. last_text n m u ≡ Some t) (omega arith) (last_more n (more + k) u t (some_more n k more u t e))
 

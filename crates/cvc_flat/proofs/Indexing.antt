@@ -1,7 +1,7 @@
 -- An index of pairs with one pair more.
 use Rattle.std.proofs.Common.{◌≡◌, ℕ, ◌+◌, ◌<◌, Bool, true, false, cond, List, [], ◌∷◌, ◌++◌, length, take, get_or, slice_get, Option, Some, None, Vec, if◌then◌else◌, refl, sym, ap, ◌∙◌, subst, arith, true≢false}
 use Rattle.std.specs.Prelude.{IfSome, filter}
-use Rattle.std.specs.Option.{option_and_then}
+use Rattle.std.specs.Option.{option_and_then, option_map}
 use Rattle.std.specs.declared.alloc.Global.{Global}
 use Rattle.std.specs.Map.{lookup}
 use Rattle.std.specs.Str.{bytes_eq, str_to_ascii_lowercase}
@@ -23,16 +23,16 @@ abbrev pub same_key : Vec ℕ Global → Vec ℕ Global → Bool
 same_key x y = bytes_eq x.items y.items
 
 -- the value at any bytes, after an insertion
-lookup-insert : (name : List ℕ) (key : Vec ℕ Global) (v : ℕ) (es : Entries)
+pub lookup-insert : {X : Type 0} (name : List ℕ) (key : Vec ℕ Global) (v : X) (es : List (Vec ℕ Global × X))
     → lookup (is_key name) (insert_entry same_key es key v) ≡ (if bytes_eq name key.items then Some v else lookup (is_key name) es)
-lookup-insert name key v [] = refl
-lookup-insert name key v (e ∷ es) = by (bytes_eq key.items e.0.items) refl (lookup-insert name key v es)
+lookup-insert {X} name key v [] = refl
+lookup-insert {X} name key v (e ∷ es) = by (bytes_eq key.items e.0.items) refl (lookup-insert name key v es)
   where
-    twice : (a : Bool) (o : Option ℕ) → cond a (Some v) o ≡ cond a (Some v) (cond a (Some e.1) o)
+    twice : (a : Bool) (o : Option X) → cond a (Some v) o ≡ cond a (Some v) (cond a (Some e.1) o)
     twice true o = refl
     twice false o = refl
 
-    apart : (a b : Bool) → bytes_eq name e.0.items ≡ a → bytes_eq name key.items ≡ b → bytes_eq key.items e.0.items ≡ false → (o : Option ℕ)
+    apart : (a b : Bool) → bytes_eq name e.0.items ≡ a → bytes_eq name key.items ≡ b → bytes_eq key.items e.0.items ≡ false → (o : Option X)
         → cond a (Some e.1) (cond b (Some v) o) ≡ cond b (Some v) (cond a (Some e.1) o)
     apart true true p q r o =
         let same : key.items ≡ e.0.items = sym ((bytes_decides name key.items).0 q) ∙ (bytes_decides name e.0.items).0 p in
@@ -53,6 +53,14 @@ lookup-insert name key v (e ∷ es) = by (bytes_eq key.items e.0.items) refl (lo
         ap (λ b. lookup (is_key name) (if b then (e.0, v) ∷ es else e ∷ insert_entry same_key es key v)) q
         ∙ ap (cond (bytes_eq name e.0.items) (Some e.1)) rest
         ∙ apart (bytes_eq name e.0.items) (bytes_eq name key.items) refl refl q (lookup (is_key name) es)
+
+pub mapped-insert : {X Y : Type 0} (f : X → Y) (name : List ℕ) (key : Vec ℕ Global) (v : X) (es : List (Vec ℕ Global × X))
+    → option_map f (lookup (is_key name) (insert_entry same_key es key v)) ≡ (if bytes_eq name key.items then Some (f v) else option_map f (lookup (is_key name) es))
+mapped-insert {X} {Y} f name key v es = ap (option_map f) (lookup-insert name key v es) ∙ by (bytes_eq name key.items)
+  where
+    by : (b : Bool) → option_map f (cond b (Some v) (lookup (is_key name) es)) ≡ cond b (Some (f v)) (option_map f (lookup (is_key name) es))
+    by true = refl
+    by false = refl
 
 last_push : {X : Type 0} (xs : List X) (x : X) → last_of (xs ++ x ∷ []) ≡ Some x
 last_push [] x = refl

@@ -36,3 +36,5 @@ pub mod Listed
 pub mod Whole
 pub mod States
 pub mod Seen
+pub mod Answering
+pub mod Sharing

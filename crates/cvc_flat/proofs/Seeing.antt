@@ -7,15 +7,15 @@ use Rattle.cvc_flat.specs.declared.pair_index.PairIndexes.{PairIndexes}
 use Rattle.cvc_flat.specs.declared.params.Lists.{Lists}
 use Rattle.cvc_flat.specs.declared.params.Sight.{Sight}
 use Rattle.cvc_flat.specs.PairIndexes.{IsIndexOf, IsListed}
-use Rattle.cvc_flat.specs.Sights.{IsSight}
+use Rattle.cvc_flat.specs.Seen.{HasLists}
 
-pub card_listed : (s : Sight) (depth : ℕ) (l : Level) (i : Lists) → IsSight s → (depth ≡ 0 → ⊥) → depth ≤ length s.levels.items
+pub card_listed : (s : Sight) (depth : ℕ) (l : Level) (i : Lists) → HasLists s → (depth ≡ 0 → ⊥) → depth ≤ length s.levels.items
     → l ≡ get_or s.levels.items (depth - 1) l → i ≡ get_or s.lists.items (depth - 1) i → IsListed s.indexes i.card l.card.now.pairs
 card_listed s depth l i is some inside at list =
     subst (λ (e : Level). IsListed s.indexes i.card e.card.now.pairs) (sym at)
     (subst (λ (d : Lists). IsListed s.indexes d.card (get_or s.levels.items (depth - 1) l).card.now.pairs) (sym list) (is.cards (depth - 1) i l (omega arith)))
 
-pub cell_listed : (s : Sight) (depth : ℕ) (l : Level) (i : Lists) → IsSight s → (depth ≡ 0 → ⊥) → depth ≤ length s.levels.items
+pub cell_listed : (s : Sight) (depth : ℕ) (l : Level) (i : Lists) → HasLists s → (depth ≡ 0 → ⊥) → depth ≤ length s.levels.items
     → l ≡ get_or s.levels.items (depth - 1) l → i ≡ get_or s.lists.items (depth - 1) i → IsListed s.indexes i.cell l.cell.now.pairs
 cell_listed s depth l i is some inside at list =
     subst (λ (e : Level). IsListed s.indexes i.cell e.cell.now.pairs) (sym at)

@@ -1,6 +1,6 @@
 -- A sight as it is made, with a list more, a level more and a level less.
 use Rattle.std.proofs.Common.{◌≡◌, ℕ, ◌+◌, ◌<◌, ◌≤◌, List, [], ◌∷◌, ◌++◌, length, take, get_or, refl, sym, ap, subst, ◌∙◌, arith, inl, inr}
-use Rattle.std.specs.Prelude.{Result, Ok, Err, IfOk}
+use Rattle.std.specs.Prelude.{Result, Ok, Err, IfOk, OnOk}
 use Rattle.std.proofs.lemmas.Bool.{cases_eq}
 use Rattle.std.proofs.lemmas.List.{get_or_append_left, get_or_at, get_or-take, length-append, length-take-le}
 use Rattle.cvc_base.specs.declared.param.Pair.{Pair}
@@ -11,15 +11,19 @@ use Rattle.cvc_flat.specs.declared.params.Sight.{Sight}
 use Rattle.cvc_flat.specs.Instances.{cell_at, cell_for}
 use Rattle.cvc_flat.specs.Levels.{AreLevels}
 use Rattle.cvc_flat.specs.PairIndexes.{IsIndexOf, IsListed}
-use Rattle.cvc_flat.specs.Sights.{IsSight}
+use Rattle.cvc_flat.specs.Seen.{HasLists}
 
 -- what two facts of an answer give
 pub on_both : {T E A B C : Type 0} (r : Result T E) → IfOk r (λ _. A) → IfOk r (λ _. B) → (A → B → C) → IfOk r (λ _. C)
 on_both (Ok x) a b f = f a b
 on_both (Err e) a b f = tt
 
+pub on_one : {T E A B : Type 0} (r : Result T E) → OnOk r A → (A → B) → OnOk r B
+on_one (Ok x) a f = f a
+on_one (Err e) a f = tt
+
 pub sight_new : (s : Sight) → IsIndexOf s.indexes.main s.netlist.now.params → s.top.now ≡ cell_at s.netlist.now [] → IsListed s.indexes 0 s.top.now.pairs
-    → s.levels.items ≡ [] → s.lists.items ≡ [] → IsSight s
+    → s.levels.items ≡ [] → s.lists.items ≡ [] → HasLists s
 sight_new s main top list levels lists =
     let few : length s.levels.items ≡ 0 = ap length levels in
     record {
@@ -32,8 +36,8 @@ sight_new s main top list levels lists =
       cells = λ k d e h. absurd (omega (arith, few, h));
     }
 
-pub sight_kept : (old new : Sight) → IsSight old → new.netlist.now ≡ old.netlist.now → new.top.now ≡ old.top.now → new.levels.items ≡ old.levels.items → new.lists.items ≡ old.lists.items
-    → new.indexes.main ≡ old.indexes.main → ((k : ℕ) (pairs : List Pair) → IsListed old.indexes k pairs → IsListed new.indexes k pairs) → IsSight new
+pub sight_kept : (old new : Sight) → HasLists old → new.netlist.now ≡ old.netlist.now → new.top.now ≡ old.top.now → new.levels.items ≡ old.levels.items → new.lists.items ≡ old.lists.items
+    → new.indexes.main ≡ old.indexes.main → ((k : ℕ) (pairs : List Pair) → IsListed old.indexes k pairs → IsListed new.indexes k pairs) → HasLists new
 sight_kept old new is n t levels lists main kept = record {
   main = subst (λ (m : Netlist). IsIndexOf new.indexes.main m.params) (sym n) (subst (λ i. IsIndexOf i old.netlist.now.params) (sym main) is.main);
   top = t ∙ is.top ∙ ap (λ (m : Netlist). cell_at m []) (sym n);
@@ -70,10 +74,10 @@ fewer_pairs {A} {B} P xs ys m fits all k d e h =
     subst (λ (b : B). P (get_or (take m xs) k d) b) (sym (get_or-take m ys k e below))
     (subst (λ (a : A). P a (get_or ys k e)) (sym (get_or-take m xs k d below)) (all k d e (omega arith)))
 
-pub sight_more : (old new : Sight) (level : Level) (lists : Lists) → IsSight old → level.cell.now ≡ cell_for old.netlist.now level.card.now.cell
+pub sight_more : (old new : Sight) (level : Level) (lists : Lists) → HasLists old → level.cell.now ≡ cell_for old.netlist.now level.card.now.cell
     → IsListed old.indexes lists.card level.card.now.pairs → IsListed old.indexes lists.cell level.cell.now.pairs
     → new.netlist.now ≡ old.netlist.now → new.top.now ≡ old.top.now → new.indexes ≡ old.indexes
-    → new.levels.items ≡ old.levels.items ++ level ∷ [] → new.lists.items ≡ old.lists.items ++ lists ∷ [] → IsSight new
+    → new.levels.items ≡ old.levels.items ++ level ∷ [] → new.lists.items ≡ old.lists.items ++ lists ∷ [] → HasLists new
 sight_more old new level lists is cell card_list cell_list n t i levels listed = record {
   main = subst (λ (m : Netlist). IsIndexOf new.indexes.main m.params) (sym n) (subst (λ j. IsIndexOf j.main old.netlist.now.params) (sym i) is.main);
   top = t ∙ is.top ∙ ap (λ (m : Netlist). cell_at m []) (sym n);
@@ -91,8 +95,8 @@ sight_more old new level lists is cell card_list cell_list n t i levels listed =
       (more_pairs (λ (a : Lists) (b : Level). IsListed old.indexes a.cell b.cell.now.pairs) old.lists.items old.levels.items lists level is.count cell_list is.cells)));
 }
 
-pub sight_less : (old new : Sight) (m : ℕ) → m ≤ length old.levels.items → IsSight old → new.netlist.now ≡ old.netlist.now → new.top.now ≡ old.top.now → new.indexes ≡ old.indexes
-    → new.levels.items ≡ take m old.levels.items → new.lists.items ≡ take m old.lists.items → IsSight new
+pub sight_less : (old new : Sight) (m : ℕ) → m ≤ length old.levels.items → HasLists old → new.netlist.now ≡ old.netlist.now → new.top.now ≡ old.top.now → new.indexes ≡ old.indexes
+    → new.levels.items ≡ take m old.levels.items → new.lists.items ≡ take m old.lists.items → HasLists new
 sight_less old new m fits is n t i levels listed = record {
   main = subst (λ (k : Netlist). IsIndexOf new.indexes.main k.params) (sym n) (subst (λ j. IsIndexOf j.main old.netlist.now.params) (sym i) is.main);
   top = t ∙ is.top ∙ ap (λ (k : Netlist). cell_at k []) (sym n);

@@ -13,7 +13,7 @@ use Rattle.cvc_flat.specs.Instances.{cell_at}
 use Rattle.cvc_flat.specs.Levels.{AreLevels, card_of, instance_of}
 use Rattle.cvc_flat.specs.PairIndexes.{last_low, value_of_pair}
 use Rattle.cvc_flat.specs.Params.{Scope, Inside, Main, Use, given_in, next, pairs_above, seen_from}
-use Rattle.cvc_flat.specs.Sights.{way_to}
+use Rattle.cvc_flat.specs.Seen.{way_to}
 use Rattle.cvc_flat.proofs.Givens.{card_lower, given_lower}
 
 -- ## Ways

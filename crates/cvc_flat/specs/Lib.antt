@@ -18,6 +18,8 @@ pub mod Levels
 pub mod Planning
 pub mod Making
 pub mod PairIndexes
-pub mod Sights
 pub mod PairLists
+pub mod Seen
 pub mod Plain
+pub mod Sights
+pub mod Sharing

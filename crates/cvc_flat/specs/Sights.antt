@@ -1,41 +1,64 @@
--- What an instance sees as values are resolved: the levels on the way to it, and for the main level, the top and each level the lists of pairs by
--- the numbers of their indexes. A text is resolved on the main level or in one of the instances on the way.
-use Rattle.std.specs.Prelude.{◌≡◌, ℕ, ◌<◌, ◌≤◌, List, [], length, take, slice_index_or}
+-- What is known of names: for names that were asked in an instance or on the main level, in lower case, their last texts. A last text stays what it is
+-- for all that see the same way, so one that is known in an instance serves each instance below it.
+use Rattle.std.specs.Prelude.{◌≡◌, ℕ, ◌<◌, suc, List, length, Option, Some, IfSome, slice_index_or}
+use Rattle.std.specs.Option.{option_map}
+use Rattle.std.specs.Str.{str_to_ascii_lowercase}
+use Rattle.indexmap.specs.IndexMap.{get_by}
+use Rattle.cvc_cdl.specs.declared.netlist.Netlist.{Netlist}
+use Rattle.cvc_flat.specs.declared.known.Known.{Known}
 use Rattle.cvc_flat.specs.declared.level.Level.{Level}
-use Rattle.cvc_flat.specs.declared.params.Lists.{Lists}
+use Rattle.cvc_flat.specs.declared.lookups.Step.{Step}
+use Rattle.cvc_flat.specs.declared.lookups.Step.TheVariants as steps
 use Rattle.cvc_flat.specs.declared.params.Sight.{Sight}
-use Rattle.cvc_flat.specs.declared.params.Site.{Site}
-use Rattle.cvc_flat.specs.declared.params.Site.TheVariants as sites
 use Rattle.cvc_flat.specs.declared.params.Spot.{Spot}
-use Rattle.cvc_flat.specs.Instances.{Instance, cell_at}
-use Rattle.cvc_flat.specs.Levels.{AreLevels, instance_of}
-use Rattle.cvc_flat.specs.PairIndexes.{IsIndexOf, IsListed}
-use Rattle.cvc_flat.specs.Params.{Scope, Inside, Main, Use}
+use Rattle.cvc_flat.specs.PairIndexes.{is_key}
+use Rattle.cvc_flat.specs.Params.{Scope, Inside, Main, Use, last_text, next, seen_from}
+use Rattle.cvc_flat.specs.Seen.{HasLists, IsOnWay, scope_in, use_in, way_to}
 
--- the instance that is so many levels below the top
-abbrev pub way_to : List Level → ℕ → Instance
-way_to levels depth = instance_of (take depth levels)
+-- the last text of a name in lower case, if it is known
+abbrev pub end_of : Known → List ℕ → Option (List ℕ)
+end_of known low = option_map (λ t. t.now) (get_by (is_key low) known.ends)
 
-abbrev pub scope_in : List Level → Site → Scope
-scope_in levels sites.Main = Main
-scope_in levels (sites.Below depth) = Inside (way_to levels depth)
+-- a text has this last text
+pub record Ends (n : Netlist) (u : Use) (t : List ℕ) : Type 0 where
+  pub steps : ℕ
+  pub ends : last_text n steps u ≡ Some t
 
-abbrev pub use_in : List Level → Spot → Use
-use_in levels spot = record { text = spot.text.now; scope = scope_in levels spot.site }
+-- what a name stands for has this last text
+pub record IsAnswer (n : Netlist) (s : Scope) (low : List ℕ) (t : List ℕ) : Type 0 where
+  pub to : Use
+  pub seen : seen_from n s low ≡ Some to
+  pub ends : Ends n to t
 
--- the main level, or an instance on the way
-abbrev pub IsOnWay : List Level → Site → Type 0
-IsOnWay levels sites.Main = Unit {0}
-IsOnWay levels (sites.Below depth) = depth ≤ length levels
+abbrev pub AreAnswers : Netlist → Scope → Known → Type 0
+AreAnswers n s known = (low : List ℕ) → IfSome (end_of known low) (IsAnswer n s low)
 
--- the levels are those of the netlist, and each number is that of its list
+-- the name, where it was asked, has this last text
+pub record IsAnsweredBy (n : Netlist) (levels : List Level) (t : List ℕ) (asked : Spot) : Type 0 where
+  pub inside : IsOnWay levels asked.site
+  pub answer : IsAnswer n (scope_in levels asked.site) (str_to_ascii_lowercase asked.text.now) t
+
+-- a text stands for another, by its name in lower case
+pub record LeadsTo (n : Netlist) (levels : List Level) (spot other : Spot) : Type 0 where
+  pub step : next n (use_in levels spot) ≡ Some (use_in levels other)
+  pub name : seen_from n (scope_in levels spot.site) (str_to_ascii_lowercase spot.text.now) ≡ Some (use_in levels other)
+  pub inside : IsOnWay levels other.site
+
+abbrev pub IsStep : Netlist → List Level → Spot → Step → Type 0
+IsStep n levels spot (steps.End t) = Ends n (use_in levels spot) t.now
+IsStep n levels spot (steps.On seen) = LeadsTo n levels spot seen
+
+-- the lists are those of the levels, and all that is known of names is right
 pub record IsSight (s : Sight) : Type 0 where
-  pub main : IsIndexOf s.indexes.main s.netlist.now.params
-  pub top : s.top.now ≡ cell_at s.netlist.now []
-  pub top_list : IsListed s.indexes 0 s.top.now.pairs
-  pub levels : AreLevels s.netlist.now s.levels.items
-  pub count : length s.lists.items ≡ length s.levels.items
-  pub cards : (k : ℕ) (d : Lists) (e : Level) → k < length s.levels.items
-      → IsListed s.indexes (slice_index_or s.lists.items k d).card (slice_index_or s.levels.items k e).card.now.pairs
-  pub cells : (k : ℕ) (d : Lists) (e : Level) → k < length s.levels.items
-      → IsListed s.indexes (slice_index_or s.lists.items k d).cell (slice_index_or s.levels.items k e).cell.now.pairs
+  pub lists : HasLists s
+  pub main : AreAnswers s.netlist.now Main s.main_known
+  pub count : length s.known.items ≡ suc (length s.levels.items)
+  pub known : (k : ℕ) (d : Known) → k < length s.known.items → AreAnswers s.netlist.now (Inside (way_to s.levels.items k)) (slice_index_or s.known.items k d)
+
+-- they differ at most in what is known
+pub record SeesTheSame (old new : Sight) : Type 0 where
+  pub netlist : new.netlist.now ≡ old.netlist.now
+  pub indexes : new.indexes ≡ old.indexes
+  pub top : new.top.now ≡ old.top.now
+  pub levels : new.levels.items ≡ old.levels.items
+  pub lists : new.lists.items ≡ old.lists.items

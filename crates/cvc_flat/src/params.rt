@@ -1,4 +1,4 @@
-//! The parameters of a device: its pairs, each value followed from name to name up to a number or a word.
+//! What an instance sees as the values of parameters are resolved.
 ghost use Rattle.std.specs.Prelude.{◌≡◌, ℕ, ◌<◌, ◌≤◌, ◌-◌, ◌+◌, List, [], ◌∷◌, ◌++◌, suc, IfOk, IfSome, OnOk, is_none, length, take};
 ghost use Rattle.std.specs.Option.{option_map};
 ghost use Rattle.std.specs.Str.{str_to_ascii_lowercase};
@@ -7,13 +7,14 @@ ghost use Rattle.cvc_base.specs.declared.param.Pair.{Pair};
 ghost use Rattle.cvc_flat.specs.Instances.{cell_at, cell_for};
 ghost use Rattle.cvc_flat.specs.Levels.{instance_of};
 ghost use Rattle.cvc_flat.specs.PairIndexes.{IsIndexOf, IsListed};
-ghost use Rattle.cvc_flat.specs.Params.{Inside, Main, given_in, last_text, next, on_card, pairs_above, param_in, params_in, seen_from, value_of_text};
-ghost use Rattle.cvc_flat.specs.Places.{has_loop};
-ghost use Rattle.cvc_flat.specs.Sights.{IsOnWay, IsSight, scope_in, use_in, way_to};
+ghost use Rattle.cvc_flat.specs.Sights.{IsSight};
+ghost use Rattle.cvc_flat.specs.Params.{Inside, Main, given_in, on_card, pairs_above, seen_from, value_of_text};
+ghost use Rattle.cvc_flat.specs.Seen.{HasLists, IsOnWay, scope_in, use_in, way_to};
 
+use crate::known::Known;
 use crate::level::Level;
 use crate::pair_index::{PairIndex, PairIndexes, lower_case};
-use cvc_base::{NoMemory, Pair, Pairs, Param, Params, Text, Value};
+use cvc_base::{NoMemory, Pair, Text, Value};
 use cvc_cdl::{Cell, Netlist};
 use cvc_units::read_number;
 use std::alloc::Global;
@@ -26,14 +27,17 @@ pub(crate) struct Lists {
 }
 
 // What the last instance on the way from the top sees: the netlist with the indexes of its lists, the top, whose list has number 0, and each
-// instance on the way.
+// instance on the way. It keeps the last texts of the names that were asked, on the main level, at the top and in each instance on the way.
 #[derive(Drop)]
 pub(crate) struct Sight<'n> {
-    netlist: &'n Netlist,
-    indexes: PairIndexes,
-    top: &'n Cell,
-    levels: Vec<Level<'n>>,
-    lists: Vec<Lists>,
+    pub(crate) alloc: Global,
+    pub(crate) netlist: &'n Netlist,
+    pub(crate) indexes: PairIndexes,
+    pub(crate) top: &'n Cell,
+    pub(crate) levels: Vec<Level<'n>>,
+    pub(crate) lists: Vec<Lists>,
+    pub(crate) main_known: Known<'n>,
+    pub(crate) known: Vec<Known<'n>>,
 }
 
 // Where a text is resolved: on the main level, or in the instance that is so many levels below the top.
@@ -75,12 +79,17 @@ impl<'n> Sight<'n> {
     {
         let mut indexes = PairIndexes::new(alloc, netlist.params.as_slice())?;
         indexes.add(alloc, top.pairs.as_slice())?;
+        let mut known = Vec::new(alloc);
+        known.push(Known::new(alloc))?;
         Ok(Sight {
+            alloc,
             netlist,
             indexes,
             top,
             levels: Vec::new(alloc),
             lists: Vec::new(alloc),
+            main_known: Known::new(alloc),
+            known,
         })
     }
 
@@ -115,6 +124,7 @@ impl<'n> Sight<'n> {
     {
         self.levels.push(level)?;
         self.lists.push(lists)?;
+        self.known.push(Known::new(self.alloc))?;
         Ok(())
     }
 
@@ -128,11 +138,12 @@ impl<'n> Sight<'n> {
     {
         self.levels.pop();
         self.lists.pop();
+        self.known.pop();
     }
 
     // The value of a name among the pairs of an instance's card.
     fn on_card(&self, depth: usize, low: &[u8]) -> Option<Spot<'n>>
-        requires sight { IsSight self.now }
+        requires sight { HasLists self.now }
         requires inside { depth ≤ length self.now.levels.items }
         requires lower { str_to_ascii_lowercase low.now ≡ low.now }
         ensures spot { option_map (use_in self.now.levels.items) result ≡ on_card (way_to self.now.levels.items depth) low.now }
@@ -149,7 +160,7 @@ impl<'n> Sight<'n> {
 
     // The value of a name among the pairs of an instance's cell.
     fn in_cell(&self, depth: usize, low: &[u8]) -> Option<Spot<'n>>
-        requires sight { IsSight self.now }
+        requires sight { HasLists self.now }
         requires inside { depth ≤ length self.now.levels.items }
         requires lower { str_to_ascii_lowercase low.now ≡ low.now }
         ensures spot { option_map (use_in self.now.levels.items) result ≡ given_in (Inside (way_to self.now.levels.items depth)) (cell_at self.now.netlist.now (way_to self.now.levels.items depth)).pairs low.now }
@@ -167,7 +178,7 @@ impl<'n> Sight<'n> {
 
     // The value of a name among the main level's pairs.
     fn on_main(&self, low: &[u8]) -> Option<Spot<'n>>
-        requires sight { IsSight self.now }
+        requires sight { HasLists self.now }
         requires lower { str_to_ascii_lowercase low.now ≡ low.now }
         ensures spot { option_map (use_in self.now.levels.items) result ≡ given_in Main self.now.netlist.now.params low.now }
         ensures inside { IfSome result (λ spot. IsOnWay self.now.levels.items spot.site) }
@@ -177,8 +188,8 @@ impl<'n> Sight<'n> {
     }
 
     // What a name stands for.
-    fn seen_from(&self, site: Site, low: &[u8]) -> Option<Spot<'n>>
-        requires sight { IsSight self.now }
+    pub(crate) fn seen_from(&self, site: Site, low: &[u8]) -> Option<Spot<'n>>
+        requires sight { HasLists self.now }
         requires inside { IsOnWay self.now.levels.items site }
         requires lower { str_to_ascii_lowercase low.now ≡ low.now }
         ensures spot { option_map (use_in self.now.levels.items) result ≡ seen_from self.now.netlist.now (scope_in self.now.levels.items site) low.now }
@@ -195,23 +206,9 @@ impl<'n> Sight<'n> {
         self.on_main(low)
     }
 
-    // What a text stands for, if it names a visible parameter.
-    fn next(&self, alloc: Global, spot: Spot<'n>) -> Result<Option<Spot<'n>>, NoMemory>
-        requires sight { IsSight self.now }
-        requires inside { IsOnWay self.now.levels.items spot.site }
-        ensures spot { IfOk result (λ seen. option_map (use_in self.now.levels.items) seen ≡ next self.now.netlist.now (use_in self.now.levels.items spot.entry)) }
-        ensures inside { IfOk result (λ seen. IfSome seen (λ s. IsOnWay self.now.levels.items s.site)) }
-    {
-        if read_number(spot.text).is_ok() {
-            return Ok(None);
-        }
-        let low = lower_case(alloc, spot.text)?;
-        Ok(self.seen_from(spot.site, low.as_slice()))
-    }
-
     // How many pairs can be passed.
-    fn pairs_above(&self) -> Result<usize, NoMemory>
-        requires { IsSight self.now }
+    pub(crate) fn pairs_above(&self) -> Result<usize, NoMemory>
+        requires { HasLists self.now }
         ensures { IfOk result (λ count. count ≡ pairs_above self.now.netlist.now (instance_of self.now.levels.items)) }
     {
         let mut count = sum(self.top.pairs.len(), self.netlist.params.len())?;
@@ -221,67 +218,15 @@ impl<'n> Sight<'n> {
         Ok(count)
     }
 
-    // The text at the end, after at most so many steps.
-    fn last_text(
-        &self,
-        alloc: Global,
-        steps: usize,
-        start: Spot<'n>,
-    ) -> Result<Option<&'n [u8]>, NoMemory>
-        requires sight { IsSight self.now }
-        requires inside { IsOnWay self.now.levels.items start.site }
-        ensures { IfOk result (λ last. option_map (λ text. text.now) last ≡ last_text self.now.netlist.now (suc steps) (use_in self.now.levels.items start.entry)) }
+    // Where the value of a device's pair is resolved.
+    pub(crate) fn last_spot(&self, pair: &'n Pair) -> Spot<'n>
+        ensures spot { use_in self.now.levels.items result ≡ record { text = pair.now.value; scope = Inside (instance_of self.now.levels.items) } }
+        ensures inside { IsOnWay self.now.levels.items result.site }
     {
-        let mut spot = start;
-        let mut left = steps;
-        while let Some(seen) = self.next(alloc, spot)? {
-            if left == 0 {
-                return Ok(None);
-            }
-            left -= 1;
-            spot = seen;
-        }
-        Ok(Some(spot.text))
-    }
-
-    // A parameter of a device, or `None` where its value is a loop.
-    fn param(&self, alloc: Global, steps: usize, pair: &'n Pair) -> Result<Option<Param>, NoMemory>
-        requires sight { IsSight self.now }
-        requires steps { steps ≡ pairs_above self.now.netlist.now (instance_of self.now.levels.items) }
-        ensures { IfOk result (λ param. param ≡ param_in self.now.netlist.now (instance_of self.now.levels.items) pair.now) }
-    {
-        let start = Spot {
+        Spot {
             text: pair.value.bytes(),
             site: Site::Below(self.levels.len()),
-        };
-        let Some(text) = self.last_text(alloc, steps, start)? else {
-            return Ok(None);
-        };
-        let name = Text::of(alloc, pair.name.bytes())?;
-        let value = value_of(alloc, text)?;
-        Ok(Some(Param { name, value }))
-    }
-
-    // The parameters of a device with these pairs, in their order, or `None` where one of them is a loop. Time is linear in the pairs and in the
-    // steps of their chains; a loop takes as many steps as there are pairs to see.
-    pub(crate) fn params_of(
-        &self,
-        alloc: Global,
-        pairs: &'n Pairs,
-    ) -> Result<Option<Params>, NoMemory>
-        requires { IsSight self.now }
-        ensures found { IfOk result (λ found. found ≡ params_in self.now.netlist.now (instance_of self.now.levels.items) pairs.now) }
-        ensures looped { IfOk result (λ found. is_none found ≡ has_loop self.now.netlist.now (instance_of self.now.levels.items) pairs.now) }
-    {
-        let steps = self.pairs_above()?;
-        let mut params = Params::new(alloc);
-        for pair in pairs.as_slice() {
-            match self.param(alloc, steps, pair)? {
-                Some(param) => params.push(param)?,
-                None => return Ok(None),
-            }
         }
-        Ok(Some(params))
     }
 }
 

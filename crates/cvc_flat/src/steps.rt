@@ -1,5 +1,5 @@
 //! The steps of a walk.
-ghost use Rattle.std.specs.Prelude.{◌≡◌, ◌∷◌, ◌++◌, ◌+◌, ◌<◌, ◌≤◌, [], All, IfOk, OnOk, length, map};
+ghost use Rattle.std.specs.Prelude.{◌≡◌, ◌∷◌, ◌++◌, ◌+◌, ◌<◌, ◌≤◌, [], All, IfOk, IfSome, OnOk, length, map};
 ghost use Rattle.std.specs.Option.{option_map};
 ghost use Rattle.cvc_base.specs.Answers.{Refuses};
 ghost use Rattle.cvc_base.specs.declared.fault.Refusal.TheVariants as refusals;
@@ -12,7 +12,8 @@ ghost use Rattle.cvc_flat.specs.Names.{AreApart};
 ghost use Rattle.cvc_flat.specs.Nets.{path_of as path_in};
 ghost use Rattle.cvc_flat.specs.Planning.{IsDevicePlan, IsPlan, opening_of};
 ghost use Rattle.cvc_flat.specs.Resolving.{AreNames};
-ghost use Rattle.cvc_flat.specs.Sights.{IsSight};
+ghost use Rattle.cvc_flat.specs.Sharing.{IsShared};
+ghost use Rattle.cvc_flat.specs.Sights.{IsSight, SeesTheSame};
 ghost use Rattle.cvc_flat.specs.Tables.{AreWaysApart, IsSound, IsTree, path_of, way_at, ways_of};
 
 use crate::cards::Plan;
@@ -22,6 +23,7 @@ use crate::params::Sight;
 use crate::plan::DevicePlan;
 use crate::resolve::net_row;
 use crate::rows::{DeviceRow, Group, InstanceRow, NetRow};
+use crate::shared::group_of;
 use arrayvec::ArrayVec;
 use cvc_base::{Cause, Fault, FileKind, NetId, NoMemory, Refusal};
 use cvc_card::DeviceCard;
@@ -141,24 +143,29 @@ pub(crate) fn place<'n>(
     alloc: Global,
     source: &Source<'n>,
     instances: &[InstanceRow],
-    sight: &Sight<'n>,
+    sight: &mut Sight<'n>,
     instance: u32,
     card: &'n DeviceCard,
     number: u32,
     device: &DevicePlan,
+    shared: &mut Option<u32>,
     made: &mut Made,
 ) -> Result<(), Refusal>
     requires plan { IsPlan source.now.netlist.now source.now.plan.now }
     requires sound { IsSound (tables_of source.now.netlist.now source.now.plan.now instances.now made.old) }
     requires groups { length made.old.groups.items ≤ length made.old.devices.items }
-    requires sight { IsSight sight.now }
-    requires same { sight.now.netlist.now ≡ source.now.netlist.now }
+    requires sight { IsSight sight.old }
+    requires same { sight.old.netlist.now ≡ source.now.netlist.now }
     requires inside { instance ≤ length instances.now }
-    requires path { path_of source.now.plan.now.cards.names source.now.plan.now.cards.parts.items (way_at (ways_of instances.now) instance) ≡ path_in source.now.netlist.now (instance_of sight.now.levels.items) }
+    requires path { path_of source.now.plan.now.cards.names source.now.plan.now.cards.parts.items (way_at (ways_of instances.now) instance) ≡ path_in source.now.netlist.now (instance_of sight.old.levels.items) }
     requires device { IsDevicePlan source.now.plan.now.cards card.now number device.now }
     requires formed { length card.now.nets ≡ net_count card.now.letter }
-    ensures refused { Refuses (option_map (fault_at card.now.line) (device_cause_in limits source.now.netlist.now (length made.old.devices.items) (known_nets source.now.plan.now.cards instances.now made.old.nets) (instance_of sight.now.levels.items) card.now)) result }
-    ensures added { OnOk result (AddsDevice source.now.netlist.now source.now.plan.now instances.now made.old made.new (instance_of sight.now.levels.items) card.now) }
+    requires shared { IfSome shared.old (IsShared source.now.plan.now.cards.names made.old.groups.items card.now) }
+    ensures refused { Refuses (option_map (fault_at card.now.line) (device_cause_in limits source.now.netlist.now (length made.old.devices.items) (known_nets source.now.plan.now.cards instances.now made.old.nets) (instance_of sight.old.levels.items) card.now)) result }
+    ensures added { OnOk result (AddsDevice source.now.netlist.now source.now.plan.now instances.now made.old made.new (instance_of sight.old.levels.items) card.now) }
+    ensures shared { OnOk result (IfSome shared.new (IsShared source.now.plan.now.cards.names made.new.groups.items card.now)) }
+    ensures sight { OnOk result (IsSight sight.new) }
+    ensures sees { OnOk result (SeesTheSame sight.old sight.new) }
 {
     if made.devices.len() >= DEVICES {
         return Err(refused(card.line, Cause::TooManyDevices));
@@ -173,15 +180,17 @@ pub(crate) fn place<'n>(
     if made.nets.len() > NETS {
         return Err(refused(card.line, Cause::TooManyNets));
     }
-    let found = sight.params_of(alloc, &card.pairs)?;
-    let Some(params) = found else {
+    let found = group_of(
+        alloc,
+        sight,
+        &card.pairs,
+        device.model,
+        shared,
+        &mut made.groups,
+    )?;
+    let Some(group) = found else {
         return Err(refused(card.line, Cause::ParamLoop));
     };
-    let group = made.groups.len() as u32;
-    made.groups.push(Group {
-        model: device.model,
-        params,
-    })?;
     made.devices.push(DeviceRow {
         instance,
         card: number,

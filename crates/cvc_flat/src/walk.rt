@@ -18,6 +18,7 @@ use crate::nets::NetTable;
 use crate::pair_lists::lists_of;
 use crate::params::{Lists, Sight};
 use crate::rows::InstanceRow;
+use crate::shared::no_groups;
 use crate::steps::{Made, Source, enter, opened, place};
 use cvc_base::{NoMemory, Refusal, Text};
 use cvc_cdl::{Cell, Item, Netlist};
@@ -67,6 +68,7 @@ fn walk<'n>(
         groups: Vec::new(alloc),
     };
     let mut sight = start;
+    let mut shared = no_groups(alloc, source.netlist)?;
     let mut above: Vec<Mark<'_>> = Vec::new(alloc);
     let mut mark = Mark {
         instance: 0,
@@ -89,15 +91,17 @@ fn walk<'n>(
         mark.next += 1;
         match (item, &plans.items[mark.next - 1]) {
             (Item::Device(card), ItemPlan::Device(number, device)) => {
+                let groups = &mut shared[mark.plan];
                 place(
                     alloc,
                     source,
                     &instances,
-                    &sight,
+                    &mut sight,
                     mark.instance,
                     card,
                     *number,
                     device,
+                    &mut groups.items[mark.next - 1],
                     &mut made,
                 )?;
                 continue 'visits;

@@ -1,5 +1,5 @@
-use Rattle.std.proofs.Common.{◌≡◌, ℕ, ◌<◌, true, false, List, length, refl, sym, ap, ◌∙◌, arith}
-use Rattle.std.specs.Prelude.{is_none}
+use Rattle.std.proofs.Common.{◌≡◌, ℕ, ◌<◌, true, false, List, length, refl, sym, ap, subst, ◌∙◌, arith}
+use Rattle.std.specs.Prelude.{IfSome, Option, is_none}
 use Rattle.std.specs.Option.{option_map}
 use Rattle.cvc_base.specs.declared.cause.Cause.TheVariants.{TooManyNets, ParamLoop}
 use Rattle.cvc_cdl.specs.Building.{fault_at}
@@ -8,11 +8,12 @@ use Rattle.cvc_flat.specs.Flat.{limits, nets_once, pins_of}
 use Rattle.cvc_flat.specs.Levels.{instance_of}
 use Rattle.cvc_flat.specs.Making.{device_cause_in, known_nets}
 use Rattle.cvc_flat.specs.Nets.{Net}
-use Rattle.cvc_flat.specs.Params.{params_in}
 use Rattle.cvc_flat.specs.Places.{has_loop}
+use Rattle.cvc_flat.specs.Sharing.{IsGroupOf, TakesGroup}
 use Rattle.cvc_flat.specs.Tables.{way_at, ways_of}
 use Rattle.cvc_flat.proofs.Added.{device_added, known_length}
 use Rattle.cvc_flat.proofs.Causes.{cause_loop, cause_nets, cause_none, refuses_at}
+use Rattle.cvc_flat.proofs.Sharing.{by_card, by_number}
 use Rattle.cvc_flat.proofs.steps.place.Goals as goal
 
 pub returns-then-len-gt-NETS-clause-refused : goal.returns-then-len-gt-NETS-clause-refused
@@ -66,7 +67,21 @@ returns-clause-refused c =
 
 pub returns-clause-added : goal.returns-clause-added
 returns-clause-added c =
-    device_added c.args.source.now.netlist.now c.args.source.now.plan.now c.args.instances.now c.args.made.now record { nets = c.pins_of.new.nets; devices = c.push-2.new.self; groups = c.push.new.self } (instance_of c.args.sight.now.levels.items) c.args.card.now c.args.number c.args.device.now
-    record { instance = c.args.instance; card = c.args.number; group = c.len-group.result; pins = c.in_ok-pins.pins } record { model = c.args.device.now.model; params = c.in-Some.params }
-    c.requires.plan c.requires.device c.requires.formed c.requires.sound c.requires.inside c.requires.path c.in_ok-pins.ensures refl (omega (arith, c.len-group.ensures)) refl (ap (λ (m : Netlist). params_in m (instance_of c.args.sight.now.levels.items) c.args.card.now.pairs) (sym c.requires.same) ∙ sym c.in_ok-found.ensures.found ∙ c.in-Some.is) c.in_ok-push.ensures.items c.in_ok-push-2.ensures.items
+    let n = c.args.source.now.netlist.now in
+    let device = c.args.device.now in
+    let within = instance_of c.args.sight.now.levels.items in
+    let takes = subst (λ (m : Netlist). TakesGroup m within c.args.card.now.pairs device.model c.args.made.now.groups.items c.group_of.new.groups.items c.in-Some.group) c.requires.same
+    (subst (λ (o : Option ℕ). IfSome o (TakesGroup c.args.sight.now.netlist.now within c.args.card.now.pairs device.model c.args.made.now.groups.items c.group_of.new.groups.items)) c.in-Some.is c.in_ok-found.ensures.group) in
+    device_added n c.args.source.now.plan.now c.args.instances.now c.args.made.now record { nets = c.pins_of.new.nets; devices = c.push.new.self; groups = c.group_of.new.groups } within c.args.card.now c.args.number device
+    record { instance = c.args.instance; card = c.args.number; group = c.in-Some.group; pins = c.in_ok-pins.pins }
+    c.requires.plan c.requires.device c.requires.formed c.requires.sound c.requires.inside c.requires.path c.in_ok-pins.ensures refl takes c.in_ok-push.ensures.items
     (omega (arith, c.len.ensures, c.if-len-ge-DEVICES.false)) c.requires.groups (omega (arith, c.len-2.ensures, c.if-len-gt-NETS.false))
+
+pub returns-clause-shared : goal.returns-clause-shared
+returns-clause-shared c =
+    by_card c.args.source.now.plan.now.cards.names c.group_of.new.groups.items c.args.card.now c.args.device.now c.group_of.new.shared c.requires.device.kept
+    (subst (λ (o : Option ℕ). IfSome o (λ g. IfSome c.group_of.new.shared (IsGroupOf c.group_of.new.groups.items c.args.card.now.pairs c.args.device.now.model))) c.in-Some.is c.in_ok-found.ensures.shared)
+
+pub group_of-requires-clause-shared : goal.group_of-requires-clause-shared
+group_of-requires-clause-shared c =
+    by_number c.args.source.now.plan.now.cards.names c.args.made.now.groups.items c.args.card.now c.args.device.now c.args.shared.now c.requires.sound.names c.requires.device.kept c.requires.shared

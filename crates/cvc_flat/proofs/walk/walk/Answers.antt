@@ -1,4 +1,4 @@
-use Rattle.std.proofs.Common.{◌≡◌, ℕ, ◌+◌, ◌-◌, ◌<◌, length, get_or, refl, sym, ap, subst, ◌∙◌, arith}
+use Rattle.std.proofs.Common.{◌≡◌, ℕ, ◌+◌, ◌-◌, ◌<◌, length, get_or, set, refl, sym, ap, subst, ◌∙◌, arith}
 use Rattle.std.proofs.lemmas.Result.{err_from_is_err_and}
 use Rattle.std.specs.Prelude.{Err}
 use Rattle.std.specs.Option.{option_map}
@@ -11,10 +11,12 @@ use Rattle.cvc_flat.specs.declared.walk.Walked.{Walked}
 use Rattle.cvc_flat.specs.Flat.{limits}
 use Rattle.cvc_flat.specs.Levels.{instance_of}
 use Rattle.cvc_flat.specs.Making.{device_cause_in, instance_cause_in, known_nets}
-use Rattle.cvc_flat.specs.Planning.{IsInstPlan, IsItemPlan}
+use Rattle.cvc_flat.specs.Planning.{IsInstPlan, IsItemPlan, all_cells}
 use Rattle.cvc_flat.specs.Tables.{path_of, way_at, ways_of}
-use Rattle.cvc_flat.proofs.States.{added_same, cause_same, fault_device, fault_instance, here, item_formed, item_planned, items_planned, path_here, plan_inside, same_item, state_begins, state_device, state_done, state_entered, state_pops}
+use Rattle.cvc_flat.proofs.States.{IsState, added_same, cause_same, fault_device, fault_instance, here, item_formed, item_planned, items_planned, path_here, plan_inside, same_item, state_begins, state_device, state_done, state_entered, state_pops}
+use Rattle.cvc_flat.proofs.Marks.{stepped}
 use Rattle.cvc_flat.proofs.Seen.{card_listed, items_listed, lists_inside, sees_on, some_level, used_cell, used_inside, used_listed}
+use Rattle.cvc_flat.proofs.Sharing.{card_shared, items_shared, none_shared, shared_inside, shared_on}
 use Rattle.cvc_flat.proofs.walk.walk.Goals as goal
 use Rattle.cvc_flat.proofs.walk.walk.Goals.{in_default-2-via-in-Device+in_default, in_default-2-via-in-Inst+in_default}
 
@@ -26,6 +28,7 @@ visits-init c =
       state = state_begins n p record { nets = c.args.nets; devices = c.new.result; groups = c.new-2.result } record { instance = 0; cell = c.args.source.now.top; plan = p.top; next = 0 } c.requires.plan c.requires.top refl refl refl c.new.ensures.items c.new-2.ensures.items c.requires.nets c.requires.within c.requires.room
           c.new-instances.result.items c.args.start.levels.items c.new-above.result.items c.new-instances.ensures.items c.requires.outside c.new-above.ensures.items;
       sees = record { sight = c.requires.sight; same = c.requires.same; listed = c.requires.lists };
+      shared = none_shared p.cards.names c.new-2.result.items (all_cells n) c.in_ok-shared.shared.items c.in_ok-shared.ensures;
     }
 
 pub returns-in_default-clause-refused : goal.returns-in_default-clause-refused
@@ -65,6 +68,7 @@ visits-preserved-then-mark-len c =
     record {
       state = state_pops n p rows made mark levels c.leave.new.self.levels.items c.in-Some.up above c.pop.new.self.items s c.in-Some.ensures.items c.leave.ensures.levels (omega (arith, c.len.ensures, c.if-mark-len.true));
       sees = sees_on n c.args.source.now.lists.now.cells.items c.visits.sight c.leave.new.self c.visits.invariant.sees c.leave.ensures.sight c.leave.ensures.same;
+      shared = c.visits.invariant.shared;
     }
 
 pub leave-requires-clause-some : goal.leave-requires-clause-some
@@ -172,9 +176,52 @@ returns-in_err-place-in-Device-Device-clause-refused c =
     let s = c.visits.invariant.state in
     let inside : mark.next < length mark.cell.now.items = omega (arith, c.len.ensures, c.if-mark-len.false) in
     let is : get_or mark.cell.now.items mark.next (items.Device c.in-Device-Device.card) ≡ items.Device c.in-Device-Device.card = same_item mark.cell.now.items mark.next c.get-item.result.now (items.Device c.in-Device-Device.card) c.get-item.ensures c.in-Device-Device.is-0 in
-    let w = err_from_is_err_and c.from_residual.result c.from_residual.ensures.1 in
+    let w = err_from_is_err_and c.from_residual-in_err-place-in-Device-Device.result c.from_residual-in_err-place-in-Device-Device.ensures.1 in
     rw (w.1, w.2) (fault_device n p rows made levels mark above s inside (Unit {0}) Walked c.in-Device-Device.card c.in_err-place-in-Device-Device.field-0.0 is
     (cause_same (Unit {0}) n p c.deref.result.now rows made levels levels c.in-Device-Device.card (Err c.in_err-place-in-Device-Device.field-0.0) c.deref.ensures.value refl c.in_err-place-in-Device-Device.ensures.refused))
+
+pub index_mut-groups-requires : goal.index_mut-groups-requires
+index_mut-groups-requires c =
+    let n = c.args.source.now.netlist.now in
+    let p = c.args.source.now.plan.now in
+    let rows = c.visits.instances.items in
+    let made = c.visits.made in
+    let levels = c.visits.sight.levels.items in
+    let mark = c.visits.mark in
+    let above = c.visits.above.items in
+    let s = c.visits.invariant.state in
+    omega (arith, shared_inside n p rows made levels mark above s p.cards.names made.groups.items c.visits.shared.items c.visits.invariant.shared)
+
+pub index_mut-requires : goal.index_mut-requires
+index_mut-requires c =
+    let n = c.args.source.now.netlist.now in
+    let p = c.args.source.now.plan.now in
+    let rows = c.visits.instances.items in
+    let made = c.visits.made in
+    let levels = c.visits.sight.levels.items in
+    let mark = c.visits.mark in
+    let above = c.visits.above.items in
+    let s = c.visits.invariant.state in
+    let inside : mark.next < length mark.cell.now.items = omega (arith, c.len.ensures, c.if-mark-len.false) in
+    omega (arith, items_shared n p rows made levels mark above s p.cards.names made.groups.items c.visits.shared.items c.visits.invariant.shared c.index_mut-groups.result.now c.index_mut-groups.ensures.value, inside)
+
+pub place-requires-clause-shared : goal.place-requires-clause-shared
+place-requires-clause-shared c =
+    let n = c.args.source.now.netlist.now in
+    let p = c.args.source.now.plan.now in
+    let rows = c.visits.instances.items in
+    let made = c.visits.made in
+    let levels = c.visits.sight.levels.items in
+    let mark = c.visits.mark in
+    let above = c.visits.above.items in
+    let s = c.visits.invariant.state in
+    let inside : mark.next < length mark.cell.now.items = omega (arith, c.len.ensures, c.if-mark-len.false) in
+    let is : get_or mark.cell.now.items mark.next (items.Device c.in-Device-Device.card) ≡ items.Device c.in-Device-Device.card = same_item mark.cell.now.items mark.next c.get-item.result.now (items.Device c.in-Device-Device.card) c.get-item.ensures c.in-Device-Device.is-0 in
+    let back : mark.next + 1 - 1 ≡ mark.next = omega arith in
+    let row = c.index_mut-groups.result.now in
+    let group = c.index_mut.result.now in
+    card_shared n p rows made levels mark above s p.cards.names made.groups.items c.visits.shared.items c.visits.invariant.shared row c.in-Device-Device.card group group c.index_mut-groups.ensures.value inside is
+    (c.index_mut.ensures.value ∙ ap (λ j. get_or row.items.items j group) back)
 
 pub visits-preserved-in-Device-Device : goal.visits-preserved-in-Device-Device
 visits-preserved-in-Device-Device c =
@@ -191,11 +238,18 @@ visits-preserved-in-Device-Device c =
     let rows2 = c.deref.result.now in
     let same = c.deref.ensures.value in
     let card = c.in-Device-Device.card in
+    let back : mark.next + 1 - 1 ≡ mark.next = omega arith in
+    let row = c.index_mut-groups.result.now in
+    let placed = c.in_ok-place-in-Device-Device.ensures in
+    let added = added_same n p rows2 rows made c.place.new.made levels levels card same refl placed.added in
     record {
-      state = state_device n p rows made levels mark above s inside c.place.new.made card is
-          (sym (λ j. option_map (fault_at card.line) (device_cause_in limits n (length made.devices.items) (known_nets p.cards (same j) made.nets) (instance_of levels) card)) ∙ c.in_ok-place-in-Device-Device.ensures.refused)
-          (added_same n p rows2 rows made c.place.new.made levels levels card same refl c.in_ok-place-in-Device-Device.ensures.added);
-      sees = c.visits.invariant.sees;
+      state = subst (λ ls. IsState n p rows c.place.new.made ls (stepped mark) above) (sym placed.sees.levels)
+          (state_device n p rows made levels mark above s inside c.place.new.made card is
+          (sym (λ j. option_map (fault_at card.line) (device_cause_in limits n (length made.devices.items) (known_nets p.cards (same j) made.nets) (instance_of levels) card)) ∙ placed.refused)
+          added);
+      sees = sees_on n c.args.source.now.lists.now.cells.items c.visits.sight c.place.new.sight c.visits.invariant.sees placed.sight (placed.sees.netlist, placed.sees.indexes);
+      shared = shared_on n p rows made levels mark above s p.cards.names made.groups.items c.place.new.made.groups.items added.more c.visits.shared.items row _ card c.place.new.shared
+          added.groups c.visits.invariant.shared c.index_mut-groups.ensures.value is placed.shared (ap (λ j. set row.items.items j c.place.new.shared) back);
     }
 
 pub returns-in_err-instance-in-Inst-Inst-clause-refused : goal.returns-in_err-instance-in-Inst-Inst-clause-refused
@@ -261,6 +315,7 @@ visits-preserved c =
           c.enter.new.instances.items c.enter-in-Inst-Inst.new.self.levels.items c.push.new.self.items c.in_ok-enter-in-Inst-Inst.ensures.levels e.rows c.in_ok-push-in-Inst-Inst.ensures.items is inst
           (sym (ap (λ d. option_map (fault_at c.in-Inst-Inst.card.line) (instance_cause_in limits (length rows) (d + 1))) deep) ∙ e.refused) e.room (omega (arith, deep, e.short)) refl c.cell_of-cell.ensures refl refl e.number refl refl refl;
       sees = sees_on n c.args.source.now.lists.now.cells.items c.visits.sight c.enter-in-Inst-Inst.new.self c.visits.invariant.sees c.in_ok-enter-in-Inst-Inst.ensures.sight c.in_ok-enter-in-Inst-Inst.ensures.same;
+      shared = c.visits.invariant.shared;
     }
 
 pub unreachable-requires : goal.unreachable-requires

@@ -1,4 +1,6 @@
 use Rattle.std.proofs.Common.{◌+◌, ◌*◌, ◌-◌, length}
+use Rattle.cvc_flat.specs.Planning.{all_cells}
+use Rattle.cvc_flat.specs.Sharing.{AreShared}
 use Rattle.cvc_flat.proofs.Seen.{Sees}
 use Rattle.cvc_flat.proofs.States.{IsState}
 use Rattle.cvc_flat.proofs.walk.walk.Given as goal
@@ -7,6 +9,7 @@ abbrev pub invariant-visits : goal.invariant-visits
 invariant-visits l = record {
   state : IsState l.source.netlist.now l.source.plan.now l.instances.items l.made l.sight.levels.items l.mark l.above.items;
   sees : Sees l.source.netlist.now l.source.lists.now.cells.items l.sight;
+  shared : AreShared l.source.plan.now.cards.names l.made.groups.items (all_cells l.source.netlist.now) l.shared.items;
 }
 
 abbrev pub decreases-visits : goal.decreases-visits

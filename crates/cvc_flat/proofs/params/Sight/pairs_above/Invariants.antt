@@ -1,6 +1,6 @@
 use Rattle.std.proofs.Common.{◌≡◌}
 use Rattle.cvc_flat.specs.Params.{pairs_above}
-use Rattle.cvc_flat.specs.Sights.{way_to}
+use Rattle.cvc_flat.specs.Seen.{way_to}
 use Rattle.cvc_flat.proofs.params.Sight.pairs_above.Given as goal
 
 abbrev pub invariant-loop-level : goal.invariant-loop-level

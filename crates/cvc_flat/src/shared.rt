@@ -1,0 +1,78 @@
+//! The groups of devices that have one model and the same parameters.
+ghost use Rattle.std.specs.Prelude.{◌≡◌, ◌≤◌, IfOk, IfSome, is_none, length};
+ghost use Rattle.std.specs.List.{AllZip};
+ghost use Rattle.cvc_flat.specs.Levels.{instance_of};
+ghost use Rattle.cvc_flat.specs.Places.{has_loop};
+ghost use Rattle.cvc_flat.specs.Planning.{all_cells};
+ghost use Rattle.cvc_flat.specs.Sharing.{HasNoGroups, IsGroupOf, TakesGroup};
+ghost use Rattle.cvc_flat.specs.Sights.{IsSight, SeesTheSame};
+
+use crate::params::Sight;
+use crate::plain::{are_plain, plain_params};
+use crate::rows::Group;
+use cvc_base::{NoMemory, Pairs};
+use cvc_cdl::{Cell, Netlist};
+use std::alloc::Global;
+
+// For each item of a cell the group that all devices of its card share, once there is one.
+#[derive(Drop)]
+pub(crate) struct CellGroups {
+    pub items: Vec<Option<u32>>,
+}
+
+// No card of a cell has a group.
+fn no_groups_in(alloc: Global, cell: &Cell) -> Result<CellGroups, NoMemory>
+    ensures { IfOk result (HasNoGroups cell.now) }
+{
+    let items = vec![in alloc; None; cell.items.len()]?;
+    Ok(CellGroups { items })
+}
+
+// No card has a group, in any of all cells, the main level last.
+pub(crate) fn no_groups(alloc: Global, netlist: &Netlist) -> Result<Vec<CellGroups>, NoMemory>
+    ensures { IfOk result (λ cells. AllZip HasNoGroups (all_cells netlist.now) cells.items) }
+{
+    let mut cells = Vec::new(alloc);
+    for cell in netlist.cells.as_slice() {
+        cells.push(no_groups_in(alloc, cell)?)?;
+    }
+    cells.push(no_groups_in(alloc, &netlist.main)?)?;
+    Ok(cells)
+}
+
+// The group of a device with these pairs, or `None` where one of its parameters is a loop. Devices of one card share a group where all values are
+// numbers, and it is made once.
+pub(crate) fn group_of<'n>(
+    alloc: Global,
+    sight: &mut Sight<'n>,
+    pairs: &'n Pairs,
+    model: u32,
+    shared: &mut Option<u32>,
+    groups: &mut Vec<Group>,
+) -> Result<Option<u32>, NoMemory>
+    requires sight { IsSight sight.old }
+    requires shared { IfSome shared.old (IsGroupOf groups.old.items pairs.now model) }
+    requires few { length groups.old.items ≤ 500000 }
+    ensures sight { IfOk result (λ group. IsSight sight.new) }
+    ensures same { IfOk result (λ group. SeesTheSame sight.old sight.new) }
+    ensures looped { IfOk result (λ group. is_none group ≡ has_loop sight.old.netlist.now (instance_of sight.old.levels.items) pairs.now) }
+    ensures group { IfOk result (λ group. IfSome group (TakesGroup sight.old.netlist.now (instance_of sight.old.levels.items) pairs.now model groups.old.items groups.new.items)) }
+    ensures shared { IfOk result (λ group. IfSome group (λ g. IfSome shared.new (IsGroupOf groups.new.items pairs.now model))) }
+{
+    if let Some(group) = *shared {
+        return Ok(Some(group));
+    }
+    let group = groups.len() as u32;
+    if are_plain(pairs) {
+        let params = plain_params(alloc, pairs)?;
+        groups.push(Group { model, params })?;
+        *shared = Some(group);
+        return Ok(Some(group));
+    }
+    let found = sight.params_of(alloc, pairs)?;
+    let Some(params) = found else {
+        return Ok(None);
+    };
+    groups.push(Group { model, params })?;
+    Ok(Some(group))
+}
