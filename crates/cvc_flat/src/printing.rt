@@ -13,61 +13,67 @@ use crate::way::way_up;
 use arrayvec::ArrayVec;
 use cvc_base::{DevId, NetId};
 
-// The pieces of a name behind the names on the way to its instance.
-fn pieces_of<'a>(
+/// Room for the pieces of a printed name: two for each instance on the way to it, and its own.
+pub type Pieces<'a> = ArrayVec<&'a [u8], 129>;
+
+// The pieces of a name behind the names on the way to its instance, in place of those that were there.
+fn set_pieces<'a>(
     names: &'a Names,
     parts: &[InstancePart],
     instances: &[InstanceRow],
     instance: u32,
     name: u32,
-) -> ArrayVec<&'a [u8], 129>
+    pieces: &mut Pieces<'a>,
+)
     requires tree { IsTree instances.now }
     requires cards { All (λ r. r.card < length parts.now) instances.now }
     requires parts { All (λ p. p.name < length names.now) parts.now }
     requires inside { instance ≤ length instances.now }
     requires name { name < length names.now }
-    ensures { flat_map (λ w. w.now) result.items ≡ printed (names_on names.now parts.now (way_at (ways_of instances.now) instance)) (text names.now name) }
+    ensures { flat_map (λ w. w.now) pieces.new.items ≡ printed (names_on names.now parts.now (way_at (ways_of instances.now) instance)) (text names.now name) }
 {
+    pieces.clear();
     let mut way = way_up(instances, instance);
-    let mut pieces = ArrayVec::new();
     while let Some(card) = way.pop() {
         let part = &parts[card as usize];
         pieces.push(names.get(part.name as usize));
         pieces.push(b"/".as_slice());
     }
     pieces.push(names.get(name as usize));
-    pieces
 }
 
 impl Flat {
-    /// The printed name of a device in pieces: the names of the instances on the way to it, each with a slash behind it, and its own.
-    pub fn device_pieces(&self, d: DevId) -> ArrayVec<&[u8], 129>
+    /// The printed name of a device in pieces, in place of those that were there: the names of the instances on the way to it, each with a slash
+    /// behind it, and its own. The room is lent, so that it is made once for many names.
+    pub fn device_pieces<'a>(&'a self, d: DevId, pieces: &mut Pieces<'a>)
         requires { d.0 < length self.now.list.devices }
-        ensures { flat_map (λ w. w.now) result.items ≡ printed_device (device self.now.list d.0) }
+        ensures { flat_map (λ w. w.now) pieces.new.items ≡ printed_device (device self.now.list d.0) }
     {
         let row = &self.devices[d.0 as usize];
         let name = self.cards[row.card as usize].name;
-        pieces_of(
+        set_pieces(
             &self.names,
             &self.parts,
             &self.instances,
             row.instance,
             name,
-        )
+            pieces,
+        );
     }
 
     /// The printed name of a net in pieces, in the same way.
-    pub fn net_pieces(&self, n: NetId) -> ArrayVec<&[u8], 129>
+    pub fn net_pieces<'a>(&'a self, n: NetId, pieces: &mut Pieces<'a>)
         requires { n.0 < length self.now.list.nets }
-        ensures { flat_map (λ w. w.now) result.items ≡ printed_net (net self.now.list n.0) }
+        ensures { flat_map (λ w. w.now) pieces.new.items ≡ printed_net (net self.now.list n.0) }
     {
         let row = &self.nets[n.0 as usize];
-        pieces_of(
+        set_pieces(
             &self.names,
             &self.parts,
             &self.instances,
             row.instance,
             row.name,
-        )
+            pieces,
+        );
     }
 }

@@ -10,7 +10,7 @@ ghost use Rattle.cvc_report.specs.Report.{leak_words, path_words, limit_words, d
 use crate::printed::word_for_rule;
 use crate::writer::Writer;
 use cvc_base::{DevId, Finding, NetId, Rule};
-use cvc_flat::Flat;
+use cvc_flat::{Flat, Pieces};
 use cvc_io::{Sink, WriteFailed};
 use cvc_law::Circuit;
 use itoa::Buffer;
@@ -86,12 +86,13 @@ impl<K: Sink> Writer<'_, K> {
     }
 
     // Ends the line of a finding.
-    fn end_finding(
+    fn end_finding<'f>(
         &mut self,
         circuit: &Circuit,
-        flat: &Flat,
+        flat: &'f Flat,
         model: &[u8],
         finding: &Finding,
+        pieces: &mut Pieces<'f>,
     ) -> Result<(), WriteFailed>
         requires listed { nets circuit.now ≡ length flat.now.list.nets }
         requires device { finding.now.device.0 < devices circuit.now }
@@ -102,7 +103,7 @@ impl<K: Sink> Writer<'_, K> {
             Rule::PossibleLeak | Rule::SureLeak => self.end_leak(model, finding),
             Rule::SupplyPath => self.end_path(model, finding),
             Rule::FloatingGate => {
-                let pieces = flat.net_pieces(gate_at(circuit, finding.device));
+                flat.net_pieces(gate_at(circuit, finding.device), pieces);
                 self.end_gate(model, pieces.as_slice())
             }
             _ => self.end_limit(model, finding),
@@ -110,20 +111,21 @@ impl<K: Sink> Writer<'_, K> {
     }
 
     // The line of a finding.
-    fn put_finding(
+    fn put_finding<'f>(
         &mut self,
         circuit: &Circuit,
-        flat: &Flat,
+        flat: &'f Flat,
         finding: &Finding,
+        pieces: &mut Pieces<'f>,
     ) -> Result<(), WriteFailed>
         requires bound { IsBound (length flat.now.list.nets) (map (λ d. d.pins) flat.now.list.devices) circuit.now }
         requires device { finding.now.device.0 < devices circuit.now }
         ensures same_sink { self.new.sink.ghost_name ≡ self.old.sink.ghost_name }
         ensures put { Puts result (stand (K.written self.old.sink.now) self.old.waiting.items (K.faults self.old.sink.now)) (stand (K.written self.new.sink.now) self.new.waiting.items (K.faults self.new.sink.now)) (finding_line circuit.now flat.now.list finding.now) }
     {
-        let pieces = flat.device_pieces(finding.device);
+        flat.device_pieces(finding.device, pieces);
         self.begin_line(word_for_rule(finding.rule), pieces.as_slice())?;
-        self.end_finding(circuit, flat, flat.model(finding.device), finding)
+        self.end_finding(circuit, flat, flat.model(finding.device), finding, pieces)
     }
 
     /// The lines of these findings.
@@ -138,8 +140,9 @@ impl<K: Sink> Writer<'_, K> {
         ensures same_sink { self.new.sink.ghost_name ≡ self.old.sink.ghost_name }
         ensures put { Puts result (stand (K.written self.old.sink.now) self.old.waiting.items (K.faults self.old.sink.now)) (stand (K.written self.new.sink.now) self.new.waiting.items (K.faults self.new.sink.now)) (flat_map (finding_line circuit.now flat.now.list) findings.now) }
     {
+        let mut pieces = Pieces::new();
         for finding in findings {
-            self.put_finding(circuit, flat, finding)?;
+            self.put_finding(circuit, flat, finding, &mut pieces)?;
         }
         Ok(())
     }

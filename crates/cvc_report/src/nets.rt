@@ -11,7 +11,7 @@ ghost use Rattle.cvc_report.specs.Report.{net_words, net_line, net_lines};
 use crate::printed::text_for_bound;
 use crate::writer::Writer;
 use cvc_base::NetId;
-use cvc_flat::Flat;
+use cvc_flat::{Flat, Pieces};
 use cvc_io::{Sink, WriteFailed};
 use cvc_law::{Circuit, Family, Fixed, Interval};
 use itoa::Buffer;
@@ -56,12 +56,13 @@ impl<K: Sink> Writer<'_, K> {
     }
 
     // The line of a net.
-    fn put_net(
+    fn put_net<'f>(
         &mut self,
         circuit: &Circuit,
-        flat: &Flat,
+        flat: &'f Flat,
         family: &Family,
         n: NetId,
+        pieces: &mut Pieces<'f>,
     ) -> Result<(), WriteFailed>
         requires net { n.0 < nets circuit.now }
         requires listed { nets circuit.now ≡ length flat.now.list.nets }
@@ -69,7 +70,7 @@ impl<K: Sink> Writer<'_, K> {
         ensures same_sink { self.new.sink.ghost_name ≡ self.old.sink.ghost_name }
         ensures put { Puts result (stand (K.written self.old.sink.now) self.old.waiting.items (K.faults self.old.sink.now)) (stand (K.written self.new.sink.now) self.new.waiting.items (K.faults self.new.sink.now)) (net_line circuit.now flat.now.list family.now n.0) }
     {
-        let pieces = flat.net_pieces(n);
+        flat.net_pieces(n, pieces);
         self.begin_line(b"net", pieces.as_slice())?;
         self.end_net(circuit, family, n)
     }
@@ -86,8 +87,9 @@ impl<K: Sink> Writer<'_, K> {
         ensures same_sink { self.new.sink.ghost_name ≡ self.old.sink.ghost_name }
         ensures put { Puts result (stand (K.written self.old.sink.now) self.old.waiting.items (K.faults self.old.sink.now)) (stand (K.written self.new.sink.now) self.new.waiting.items (K.faults self.new.sink.now)) (net_lines circuit.now flat.now.list family.now true) }
     {
+        let mut pieces = Pieces::new();
         for n in 0..circuit.nets() {
-            self.put_net(circuit, flat, family, NetId(n))?;
+            self.put_net(circuit, flat, family, NetId(n), &mut pieces)?;
         }
         Ok(())
     }

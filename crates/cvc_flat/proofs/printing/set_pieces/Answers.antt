@@ -9,7 +9,7 @@ use Rattle.cvc_flat.specs.Tables.{names_on, text, way_at, ways_of}
 use Rattle.cvc_flat.proofs.Lists.{all_front, all_last}
 use Rattle.cvc_flat.proofs.Ways.{all_on_way}
 use Rattle.cvc_flat.proofs.Writing.{path_last}
-use Rattle.cvc_flat.proofs.printing.pieces_of.Goals as goal
+use Rattle.cvc_flat.proofs.printing.set_pieces.Goals as goal
 
 one_more : {X : Type 0} (f : X → List ℕ) (pieces : List X) (p : X) (left all : List ℕ) → flat_map f pieces ++ (f p ++ left) ≡ all → flat_map f (pieces ++ p ∷ []) ++ left ≡ all
 one_more f pieces p left all e =
@@ -20,8 +20,8 @@ loop-card-init c =
     let whole = printed (names_on c.args.names.now c.args.parts.now (way_at (ways_of c.args.instances.now) c.args.instance)) (text c.args.names.now c.args.name) in
     record {
       inside = subst (All (λ k. k < length c.args.parts.now)) (sym c.way_up-way.ensures) (all_on_way (λ k. k < length c.args.parts.now) c.args.instances.now c.args.instance c.requires.cards);
-      room = omega (arith, ap length c.new-pieces.ensures, ap length c.way_up-way.ensures, c.requires.tree.depth c.args.instance c.requires.inside);
-      whole = ap (λ pieces. flat_map (λ w. w.now) pieces ++ printed (names_on c.args.names.now c.args.parts.now c.way_up-way.result.items) (text c.args.names.now c.args.name)) c.new-pieces.ensures
+      room = omega (arith, ap length c.clear.ensures, ap length c.way_up-way.ensures, c.requires.tree.depth c.args.instance c.requires.inside);
+      whole = ap (λ pieces. flat_map (λ w. w.now) pieces ++ printed (names_on c.args.names.now c.args.parts.now c.way_up-way.result.items) (text c.args.names.now c.args.name)) c.clear.ensures
           ∙ ap (λ way. printed (names_on c.args.names.now c.args.parts.now way) (text c.args.names.now c.args.name)) c.way_up-way.ensures;
     }
 

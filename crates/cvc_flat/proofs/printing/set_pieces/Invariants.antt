@@ -3,7 +3,7 @@ use Rattle.std.specs.Prelude.{All}
 use Rattle.std.specs.List.{flat_map}
 use Rattle.cvc_flat.specs.Instances.{printed}
 use Rattle.cvc_flat.specs.Tables.{names_on, text, way_at, ways_of}
-use Rattle.cvc_flat.proofs.printing.pieces_of.Given as goal
+use Rattle.cvc_flat.proofs.printing.set_pieces.Given as goal
 
 abbrev pub invariant-loop-card : goal.invariant-loop-card
 invariant-loop-card l = record {
