@@ -155,6 +155,7 @@ impl<'n> Sight<'n> {
     {
         let steps = self.pairs_above()?;
         let mut params = Params::new(alloc);
+        params.reserve(pairs.len())?;
         for pair in pairs.as_slice() {
             match self.param(alloc, steps, pair)? {
                 Some(param) => params.push(param)?,

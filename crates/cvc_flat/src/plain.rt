@@ -29,6 +29,7 @@ pub(crate) fn plain_params(alloc: Global, pairs: &Pairs) -> Result<Params, NoMem
     ensures looped { (n : Netlist) (p : Instance) → has_loop n p pairs.now ≡ false }
 {
     let mut params = Params::new(alloc);
+    params.reserve(pairs.len())?;
     for pair in pairs.as_slice() {
         let name = Text::of(alloc, pair.name.bytes())?;
         let value = value_of(alloc, pair.value.bytes())?;
