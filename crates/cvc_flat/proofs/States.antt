@@ -350,22 +350,22 @@ module _ (n : Netlist) (p : Plan) (rows : List InstanceRow) (made : Made) (mark 
 module _ (n : Netlist) (p : Plan) (rows : List InstanceRow) (made : Made) (levels : List Level) (mark : Mark) (above : List Mark) (s : IsState n p rows made levels mark above) (plan : IsPlan n p) where
   pub plan_inside : mark.plan < length p.cells.items
   plan_inside =
-      omega (arith, zip_length (λ (c : Cell) (k : CellPlan). IsCellPlan n p.cards c.items k) (all_cells n) p.cells.items plan.cells, length-append n.cells (n.main ∷ []), (here n p rows made levels mark above s).known)
+      omega (arith, zip_length (IsCellPlan n p.cards) (all_cells n) p.cells.items plan.cells, length-append n.cells (n.main ∷ []), (here n p rows made levels mark above s).known)
 
-  pub cell_planned : (k : CellPlan) → k ≡ get_or p.cells.items mark.plan k → AllZip (IsItemPlan n p.cards) mark.cell.now.items k.items.items
+  pub cell_planned : (k : CellPlan) → k ≡ get_or p.cells.items mark.plan k → AllZip (IsItemPlan n p.cards mark.cell.now.ports) mark.cell.now.items k.items.items
   cell_planned k e =
       let m = here n p rows made levels mark above s in
       let inside : mark.plan < length (all_cells n) = omega (arith, length-append n.cells (n.main ∷ []), m.known) in
-      subst (λ (c : Cell). IsCellPlan n p.cards c.items k) m.plan
-      (subst (λ (x : CellPlan). IsCellPlan n p.cards (get_or (all_cells n) mark.plan no_cell).items x) (sym e)
-      (zip_at (λ (c : Cell) (x : CellPlan). IsCellPlan n p.cards c.items x) (all_cells n) p.cells.items mark.plan no_cell k plan.cells inside))
+      subst (λ (c : Cell). IsCellPlan n p.cards c k) m.plan
+      (subst (λ (x : CellPlan). IsCellPlan n p.cards (get_or (all_cells n) mark.plan no_cell) x) (sym e)
+      (zip_at (IsCellPlan n p.cards) (all_cells n) p.cells.items mark.plan no_cell k plan.cells inside))
 
   pub items_planned : (k : CellPlan) → k ≡ get_or p.cells.items mark.plan k → length k.items.items ≡ length mark.cell.now.items
-  items_planned k e = zip_length (IsItemPlan n p.cards) mark.cell.now.items k.items.items (cell_planned k e)
+  items_planned k e = zip_length (IsItemPlan n p.cards mark.cell.now.ports) mark.cell.now.items k.items.items (cell_planned k e)
 
-  pub item_planned : (k : CellPlan) (item : Item) (i : ItemPlan) → k ≡ get_or p.cells.items mark.plan k → mark.next < length mark.cell.now.items → item ≡ get_or mark.cell.now.items mark.next item → i ≡ get_or k.items.items mark.next i → IsItemPlan n p.cards item i
+  pub item_planned : (k : CellPlan) (item : Item) (i : ItemPlan) → k ≡ get_or p.cells.items mark.plan k → mark.next < length mark.cell.now.items → item ≡ get_or mark.cell.now.items mark.next item → i ≡ get_or k.items.items mark.next i → IsItemPlan n p.cards mark.cell.now.ports item i
   item_planned k item i e inside a b =
-      subst (λ x. IsItemPlan n p.cards x i) (sym a) (subst (IsItemPlan n p.cards (get_or mark.cell.now.items mark.next item)) (sym b) (zip_at (IsItemPlan n p.cards) mark.cell.now.items k.items.items mark.next item i (cell_planned k e) inside))
+      subst (λ x. IsItemPlan n p.cards mark.cell.now.ports x i) (sym a) (subst (IsItemPlan n p.cards mark.cell.now.ports (get_or mark.cell.now.items mark.next item)) (sym b) (zip_at (IsItemPlan n p.cards mark.cell.now.ports) mark.cell.now.items k.items.items mark.next item i (cell_planned k e) inside))
 
   pub item_formed : IsWellFormed n → (item : Item) → mark.next < length mark.cell.now.items → item ≡ get_or mark.cell.now.items mark.next item → IsFormedItem n.cells item
   item_formed well item inside a =
@@ -379,7 +379,7 @@ pub no_items : {A : Type 0} (xs : List A) → length xs ≡ 0 → xs ≡ []
 no_items [] e = refl
 no_items (x ∷ xs) e = absurd (omega arith)
 
-last_split : {A : Type 0} (xs : List A) → 0 < length xs → (x : A) × (xs ≡ take (length xs - 1) xs ++ x ∷ [])
+pub last_split : {A : Type 0} (xs : List A) → 0 < length xs → (x : A) × (xs ≡ take (length xs - 1) xs ++ x ∷ [])
 last_split xs h =
     let i : ℕ = length xs - 1 in
     let below : i < length xs = omega arith in

@@ -11,10 +11,12 @@ pub mod Held
 pub mod Names
 pub mod Tables
 pub mod Resolving
+pub mod Pins
 pub mod Plans
 pub mod Levels
 pub mod Planning
 pub mod Making
+pub mod Joining
 pub mod PairIndexes
 pub mod Sights
 pub mod PairLists

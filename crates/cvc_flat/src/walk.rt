@@ -16,18 +16,20 @@ use crate::level::Level;
 use crate::nets::NetTable;
 use crate::pair_lists::lists_of;
 use crate::params::{Lists, Sight};
+use crate::ports::{join, top_ports};
 use crate::rows::InstanceRow;
 use crate::steps::{Made, Source, enter, opened, place};
 use cvc_base::{NoMemory, Refusal, Text};
 use cvc_cdl::{Cell, Item, Netlist};
 use std::alloc::Global;
 
-// Where the walk stands in an instance: the next item of its cell, whose plan has this number.
+// Where the walk stands in an instance: the next item of its cell, whose plan has this number and whose ports begin at `first`.
 #[derive(Clone, Copy)]
 pub(crate) struct Mark<'n> {
     pub instance: u32,
     pub cell: &'n Cell,
     pub plan: usize,
+    pub first: usize,
     pub next: usize,
 }
 
@@ -65,12 +67,14 @@ fn walk<'n>(
         devices: Vec::new(alloc),
         groups: Vec::new(alloc),
     };
+    let mut ports = top_ports(alloc, source.plan.openings.as_slice(), source.plan.globals)?;
     let mut sight = start;
     let mut above: Vec<Mark<'_>> = Vec::new(alloc);
     let mut mark = Mark {
         instance: 0,
         cell: source.top,
         plan: source.plan.top as usize,
+        first: 0,
         next: 0,
     };
     'visits: loop {
@@ -79,6 +83,7 @@ fn walk<'n>(
                 return Ok(Walked { instances, made });
             };
             sight.leave();
+            ports.truncate(mark.first);
             mark = up;
             continue 'visits;
         }
@@ -91,9 +96,9 @@ fn walk<'n>(
                 place(
                     alloc,
                     source,
-                    &instances,
                     &sight,
                     mark.instance,
+                    &ports[mark.first..],
                     card,
                     *number,
                     device,
@@ -107,18 +112,27 @@ fn walk<'n>(
                     card: *number,
                 };
                 let instance = enter(&mut instances, sight.depth(), row, card.line)?;
-                let cell = cell_of(source.netlist, *plan);
-                let used = &source.lists.cells[*plan as usize];
+                let cell = cell_of(source.netlist, plan.cell);
+                let used = &source.lists.cells[plan.cell as usize];
                 let numbers = Lists {
                     card: lists.items[mark.next - 1],
                     cell: used.own,
                 };
+                let first = ports.len();
+                join(
+                    &mut ports,
+                    mark.first,
+                    mark.instance,
+                    instance,
+                    plan.ports.as_slice(),
+                )?;
                 above.push(mark)?;
                 sight.enter(Level { card, cell }, numbers)?;
                 mark = Mark {
                     instance,
                     cell,
-                    plan: *plan as usize,
+                    plan: plan.cell as usize,
+                    first,
                     next: 0,
                 };
                 continue 'visits;

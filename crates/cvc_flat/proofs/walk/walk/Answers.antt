@@ -23,7 +23,7 @@ visits-init c =
     let n = c.args.source.now.netlist.now in
     let p = c.args.source.now.plan.now in
     record {
-      state = state_begins n p record { nets = c.args.nets; devices = c.new.result; groups = c.new-2.result } record { instance = 0; cell = c.args.source.now.top; plan = p.top; next = 0 } c.requires.plan c.requires.top refl refl refl c.new.ensures.items c.new-2.ensures.items c.requires.nets c.requires.within c.requires.room
+      state = state_begins n p record { nets = c.args.nets; devices = c.new.result; groups = c.new-2.result } record { instance = 0; cell = c.args.source.now.top; plan = p.top; first = 0; next = 0 } c.requires.plan c.requires.top refl refl refl c.new.ensures.items c.new-2.ensures.items c.requires.nets c.requires.within c.requires.room
           c.new-instances.result.items c.args.start.levels.items c.new-above.result.items c.new-instances.ensures.items c.requires.outside c.new-above.ensures.items;
       sees = record { sight = c.requires.sight; same = c.requires.same; listed = c.requires.lists };
     }
@@ -144,8 +144,8 @@ place-requires-clause-device c =
     let i = c.index.result.now in
     let back : mark.next + 1 - 1 ≡ mark.next = omega arith in
     let at : i ≡ get_or k.items.items mark.next i = c.index.ensures ∙ ap (λ j. get_or k.items.items j i) back in
-    let planned : IsItemPlan n p.cards item i = item_planned n p rows made levels mark above s c.requires.plan k item i c.index-plans.ensures inside c.get-item.ensures at in
-    subst (λ it. IsItemPlan n p.cards it (plans.Device c.in-Device-Device.number c.in-Device-Device.device)) c.in-Device-Device.is-0 (subst (IsItemPlan n p.cards item) c.in-Device-Device.is-1 planned)
+    let planned : IsItemPlan n p.cards mark.cell.now.ports item i = item_planned n p rows made levels mark above s c.requires.plan k item i c.index-plans.ensures inside c.get-item.ensures at in
+    subst (λ it. IsItemPlan n p.cards mark.cell.now.ports it (plans.Device c.in-Device-Device.number c.in-Device-Device.device)) c.in-Device-Device.is-0 (subst (IsItemPlan n p.cards mark.cell.now.ports item) c.in-Device-Device.is-1 planned)
 
 pub place-requires-clause-formed : goal.place-requires-clause-formed
 place-requires-clause-formed c =
@@ -231,8 +231,9 @@ cell_of-cell-requires c =
     let i = c.index.result.now in
     let back : mark.next + 1 - 1 ≡ mark.next = omega arith in
     let at : i ≡ get_or k.items.items mark.next i = c.index.ensures ∙ ap (λ j. get_or k.items.items j i) back in
-    let planned : IsItemPlan n p.cards item i = item_planned n p rows made levels mark above s c.requires.plan k item i c.index-plans.ensures inside c.get-item.ensures at in
-    let inst : IsInstPlan n p.cards c.in-Inst-Inst.card c.in-Inst-Inst.number c.in-Inst-Inst.plan = subst (λ it. IsItemPlan n p.cards it (plans.Inst c.in-Inst-Inst.number c.in-Inst-Inst.plan)) c.in-Inst-Inst.is-0 (subst (IsItemPlan n p.cards item) c.in-Inst-Inst.is-1 planned) in
+    let planned : IsItemPlan n p.cards mark.cell.now.ports item i = item_planned n p rows made levels mark above s c.requires.plan k item i c.index-plans.ensures inside c.get-item.ensures at in
+    let both = subst (λ it. IsItemPlan n p.cards mark.cell.now.ports it (plans.Inst c.in-Inst-Inst.number c.in-Inst-Inst.plan)) c.in-Inst-Inst.is-0 (subst (IsItemPlan n p.cards mark.cell.now.ports item) c.in-Inst-Inst.is-1 planned) in
+    let inst : IsInstPlan n p.cards c.in-Inst-Inst.card c.in-Inst-Inst.number c.in-Inst-Inst.plan.cell = both.0 in
     omega (arith, inst.known)
 
 pub visits-preserved : goal.visits-preserved
@@ -251,13 +252,14 @@ visits-preserved c =
     let i = c.index.result.now in
     let back : mark.next + 1 - 1 ≡ mark.next = omega arith in
     let at : i ≡ get_or k.items.items mark.next i = c.index.ensures ∙ ap (λ j. get_or k.items.items j i) back in
-    let planned : IsItemPlan n p.cards item i = item_planned n p rows made levels mark above s c.requires.plan k item i c.index-plans.ensures inside c.get-item.ensures at in
+    let planned : IsItemPlan n p.cards mark.cell.now.ports item i = item_planned n p rows made levels mark above s c.requires.plan k item i c.index-plans.ensures inside c.get-item.ensures at in
     let is : get_or mark.cell.now.items mark.next (items.Inst c.in-Inst-Inst.card) ≡ items.Inst c.in-Inst-Inst.card = same_item mark.cell.now.items mark.next c.get-item.result.now (items.Inst c.in-Inst-Inst.card) c.get-item.ensures c.in-Inst-Inst.is-0 in
-    let inst : IsInstPlan n p.cards c.in-Inst-Inst.card c.in-Inst-Inst.number c.in-Inst-Inst.plan = subst (λ it. IsItemPlan n p.cards it (plans.Inst c.in-Inst-Inst.number c.in-Inst-Inst.plan)) c.in-Inst-Inst.is-0 (subst (IsItemPlan n p.cards item) c.in-Inst-Inst.is-1 planned) in
+    let both = subst (λ it. IsItemPlan n p.cards mark.cell.now.ports it (plans.Inst c.in-Inst-Inst.number c.in-Inst-Inst.plan)) c.in-Inst-Inst.is-0 (subst (IsItemPlan n p.cards mark.cell.now.ports item) c.in-Inst-Inst.is-1 planned) in
+    let inst : IsInstPlan n p.cards c.in-Inst-Inst.card c.in-Inst-Inst.number c.in-Inst-Inst.plan.cell = both.0 in
     let deep : c.depth.result ≡ length levels = omega (arith, c.depth.ensures) in
     let e = c.in_ok-instance-in-Inst-Inst.ensures in
     record {
-      state = state_entered n p rows made levels mark above s inside c.requires.formed c.in-Inst-Inst.card c.in-Inst-Inst.number c.in-Inst-Inst.plan _ _ record { instance = c.in_ok-instance-in-Inst-Inst.instance; cell = c.cell_of-cell.result; plan = c.in-Inst-Inst.plan; next = 0 }
+      state = state_entered n p rows made levels mark above s inside c.requires.formed c.in-Inst-Inst.card c.in-Inst-Inst.number c.in-Inst-Inst.plan.cell _ _ record { instance = c.in_ok-instance-in-Inst-Inst.instance; cell = c.cell_of-cell.result; plan = c.in-Inst-Inst.plan.cell; first = c.len-first.result; next = 0 }
           c.enter.new.instances.items c.enter-in-Inst-Inst.new.self.levels.items c.push.new.self.items c.in_ok-enter-in-Inst-Inst.ensures.levels e.rows c.in_ok-push-in-Inst-Inst.ensures.items is inst
           (sym (ap (λ d. option_map (fault_at c.in-Inst-Inst.card.line) (instance_cause_in limits (length rows) (d + 1))) deep) ∙ e.refused) e.room (omega (arith, deep, e.short)) refl c.cell_of-cell.ensures refl refl e.number refl refl refl;
       sees = sees_on n c.args.source.now.lists.now.cells.items c.visits.sight c.enter-in-Inst-Inst.new.self c.visits.invariant.sees c.in_ok-enter-in-Inst-Inst.ensures.sight c.in_ok-enter-in-Inst-Inst.ensures.same;
@@ -279,10 +281,10 @@ unreachable-requires c =
     let i = c.index.result.now in
     let back : mark.next + 1 - 1 ≡ mark.next = omega arith in
     let at : i ≡ get_or k.items.items mark.next i = c.index.ensures ∙ ap (λ j. get_or k.items.items j i) back in
-    let planned : IsItemPlan n p.cards item i = item_planned n p rows made levels mark above s c.requires.plan k item i c.index-plans.ensures inside c.get-item.ensures at in
+    let planned : IsItemPlan n p.cards mark.cell.now.ports item i = item_planned n p rows made levels mark above s c.requires.plan k item i c.index-plans.ensures inside c.get-item.ensures at in
     elim c.in_default-2.branch [
-      | in_default-2-via-in-Device+in_default w ↦ (let h = w.in_default-2 in subst (λ it. IsItemPlan n p.cards it (plans.Inst h.field-0-1 h.field-1-1)) h.is-0 (subst (IsItemPlan n p.cards item) h.is-1 planned))
-      | in_default-2-via-in-Inst+in_default w ↦ (let h = w.in_default-2 in subst (λ it. IsItemPlan n p.cards it (plans.Device h.field-0-1 h.field-1-1)) h.is-0 (subst (IsItemPlan n p.cards item) h.is-1 planned))
+      | in_default-2-via-in-Device+in_default w ↦ (let h = w.in_default-2 in subst (λ it. IsItemPlan n p.cards mark.cell.now.ports it (plans.Inst h.field-0-1 h.field-1-1)) h.is-0 (subst (IsItemPlan n p.cards mark.cell.now.ports item) h.is-1 planned))
+      | in_default-2-via-in-Inst+in_default w ↦ (let h = w.in_default-2 in subst (λ it. IsItemPlan n p.cards mark.cell.now.ports it (plans.Device h.field-0-1 h.field-1-1)) h.is-0 (subst (IsItemPlan n p.cards mark.cell.now.ports item) h.is-1 planned))
     ]
 
 pub index-used-requires : goal.index-used-requires
@@ -301,9 +303,10 @@ index-used-requires c =
     let i = c.index.result.now in
     let back : mark.next + 1 - 1 ≡ mark.next = omega arith in
     let at : i ≡ get_or k.items.items mark.next i = c.index.ensures ∙ ap (λ j. get_or k.items.items j i) back in
-    let planned : IsItemPlan n p.cards item i = item_planned n p rows made levels mark above s c.requires.plan k item i c.index-plans.ensures inside c.get-item.ensures at in
-    let inst : IsInstPlan n p.cards c.in-Inst-Inst.card c.in-Inst-Inst.number c.in-Inst-Inst.plan = subst (λ it. IsItemPlan n p.cards it (plans.Inst c.in-Inst-Inst.number c.in-Inst-Inst.plan)) c.in-Inst-Inst.is-0 (subst (IsItemPlan n p.cards item) c.in-Inst-Inst.is-1 planned) in
-    omega (arith, used_inside n c.visits.sight.indexes c.args.source.now.lists.now.cells.items c.visits.invariant.sees.listed c.in-Inst-Inst.plan inst.known)
+    let planned : IsItemPlan n p.cards mark.cell.now.ports item i = item_planned n p rows made levels mark above s c.requires.plan k item i c.index-plans.ensures inside c.get-item.ensures at in
+    let both = subst (λ it. IsItemPlan n p.cards mark.cell.now.ports it (plans.Inst c.in-Inst-Inst.number c.in-Inst-Inst.plan)) c.in-Inst-Inst.is-0 (subst (IsItemPlan n p.cards mark.cell.now.ports item) c.in-Inst-Inst.is-1 planned) in
+    let inst : IsInstPlan n p.cards c.in-Inst-Inst.card c.in-Inst-Inst.number c.in-Inst-Inst.plan.cell = both.0 in
+    omega (arith, used_inside n c.visits.sight.indexes c.args.source.now.lists.now.cells.items c.visits.invariant.sees.listed c.in-Inst-Inst.plan.cell inst.known)
 
 pub index-requires-in-Inst-Inst : goal.index-requires-in-Inst-Inst
 index-requires-in-Inst-Inst c =
@@ -339,9 +342,10 @@ enter-requires-in-Inst-Inst-clause-level c =
     let i = c.index.result.now in
     let back : mark.next + 1 - 1 ≡ mark.next = omega arith in
     let at : i ≡ get_or k.items.items mark.next i = c.index.ensures ∙ ap (λ j. get_or k.items.items j i) back in
-    let planned : IsItemPlan n p.cards item i = item_planned n p rows made levels mark above s c.requires.plan k item i c.index-plans.ensures inside c.get-item.ensures at in
-    let inst : IsInstPlan n p.cards c.in-Inst-Inst.card c.in-Inst-Inst.number c.in-Inst-Inst.plan = subst (λ it. IsItemPlan n p.cards it (plans.Inst c.in-Inst-Inst.number c.in-Inst-Inst.plan)) c.in-Inst-Inst.is-0 (subst (IsItemPlan n p.cards item) c.in-Inst-Inst.is-1 planned) in
-    used_cell n c.visits.sight.netlist.now p c.in-Inst-Inst.card c.in-Inst-Inst.number c.in-Inst-Inst.plan c.cell_of-cell.result.now c.visits.invariant.sees.same inst c.cell_of-cell.ensures
+    let planned : IsItemPlan n p.cards mark.cell.now.ports item i = item_planned n p rows made levels mark above s c.requires.plan k item i c.index-plans.ensures inside c.get-item.ensures at in
+    let both = subst (λ it. IsItemPlan n p.cards mark.cell.now.ports it (plans.Inst c.in-Inst-Inst.number c.in-Inst-Inst.plan)) c.in-Inst-Inst.is-0 (subst (IsItemPlan n p.cards mark.cell.now.ports item) c.in-Inst-Inst.is-1 planned) in
+    let inst : IsInstPlan n p.cards c.in-Inst-Inst.card c.in-Inst-Inst.number c.in-Inst-Inst.plan.cell = both.0 in
+    used_cell n c.visits.sight.netlist.now p c.in-Inst-Inst.card c.in-Inst-Inst.number c.in-Inst-Inst.plan.cell c.cell_of-cell.result.now c.visits.invariant.sees.same inst c.cell_of-cell.ensures
 
 pub enter-requires-in-Inst-Inst-clause-card : goal.enter-requires-in-Inst-Inst-clause-card
 enter-requires-in-Inst-Inst-clause-card c =
@@ -378,6 +382,7 @@ enter-requires-in-Inst-Inst-clause-cell c =
     let i = c.index.result.now in
     let back : mark.next + 1 - 1 ≡ mark.next = omega arith in
     let at : i ≡ get_or k.items.items mark.next i = c.index.ensures ∙ ap (λ j. get_or k.items.items j i) back in
-    let planned : IsItemPlan n p.cards item i = item_planned n p rows made levels mark above s c.requires.plan k item i c.index-plans.ensures inside c.get-item.ensures at in
-    let inst : IsInstPlan n p.cards c.in-Inst-Inst.card c.in-Inst-Inst.number c.in-Inst-Inst.plan = subst (λ it. IsItemPlan n p.cards it (plans.Inst c.in-Inst-Inst.number c.in-Inst-Inst.plan)) c.in-Inst-Inst.is-0 (subst (IsItemPlan n p.cards item) c.in-Inst-Inst.is-1 planned) in
-    used_listed n c.visits.sight.indexes c.args.source.now.lists.now.cells.items c.visits.invariant.sees.listed c.in-Inst-Inst.plan inst.known c.cell_of-cell.result.now c.index-used.result.now c.cell_of-cell.ensures c.index-used.ensures
+    let planned : IsItemPlan n p.cards mark.cell.now.ports item i = item_planned n p rows made levels mark above s c.requires.plan k item i c.index-plans.ensures inside c.get-item.ensures at in
+    let both = subst (λ it. IsItemPlan n p.cards mark.cell.now.ports it (plans.Inst c.in-Inst-Inst.number c.in-Inst-Inst.plan)) c.in-Inst-Inst.is-0 (subst (IsItemPlan n p.cards mark.cell.now.ports item) c.in-Inst-Inst.is-1 planned) in
+    let inst : IsInstPlan n p.cards c.in-Inst-Inst.card c.in-Inst-Inst.number c.in-Inst-Inst.plan.cell = both.0 in
+    used_listed n c.visits.sight.indexes c.args.source.now.lists.now.cells.items c.visits.invariant.sees.listed c.in-Inst-Inst.plan.cell inst.known c.cell_of-cell.result.now c.index-used.result.now c.cell_of-cell.ensures c.index-used.ensures

@@ -1,0 +1,172 @@
+-- The ports of the instances that a walk is in, state by state.
+use Rattle.std.proofs.Common.{◌≡◌, ℕ, zero, suc, ◌+◌, ◌-◌, ◌<◌, ◌≤◌, List, [], ◌∷◌, ◌++◌, length, map, get_or, drop, take, refl, sym, ap, subst, ◌∙◌, length-append, arith}
+use Rattle.std.specs.Prelude.{All, None, reverse}
+use Rattle.std.proofs.lemmas.List.{get_or-drop, get_or-map, length-drop, length-map, length-take-le}
+use Rattle.cvc_card.specs.declared.card.InstCard.{InstCard}
+use Rattle.cvc_cdl.specs.declared.netlist.Cell.{Cell}
+use Rattle.cvc_cdl.specs.declared.netlist.Global.{Global}
+use Rattle.cvc_cdl.specs.declared.netlist.Item.TheVariants as items
+use Rattle.cvc_cdl.specs.declared.netlist.Netlist.{Netlist}
+use Rattle.cvc_cdl.specs.Netlist.{name_of_global}
+use Rattle.cvc_cdl.specs.WellFormed.{IsFormedItem}
+use Rattle.cvc_flat.specs.declared.cards.OpeningPlan.{OpeningPlan}
+use Rattle.cvc_flat.specs.declared.cards.Plan.{Plan}
+use Rattle.cvc_flat.specs.declared.level.Level.{Level}
+use Rattle.cvc_flat.specs.declared.pins.PortPlan.{PortPlan}
+use Rattle.cvc_flat.specs.declared.rows.InstanceRow.{InstanceRow}
+use Rattle.cvc_flat.specs.declared.rows.NetRow.{NetRow}
+use Rattle.cvc_flat.specs.declared.steps.Made.{Made}
+use Rattle.cvc_flat.specs.declared.walk.Mark.{Mark}
+use Rattle.cvc_flat.specs.Flat.{Opening, opening_at}
+use Rattle.cvc_flat.specs.Instances.{Instance, cell_at, cell_for}
+use Rattle.cvc_flat.specs.Joining.{ArePorts, HasPorts, IsHost}
+use Rattle.cvc_flat.specs.Levels.{card_of, instance_of}
+use Rattle.cvc_flat.specs.Making.{AreNetsWithin, known_nets, net_of_opening}
+use Rattle.cvc_flat.specs.Nets.{Net, net_in, net_of, net_within, path_of as path_in, top_net}
+use Rattle.cvc_flat.specs.Pins.{ArePins, IsPinWithin, IsPlanWithin, port_row, row_of_opening}
+use Rattle.cvc_flat.specs.Planning.{ArePinsOf, ArePortsOf, IsPlan, opening_of}
+use Rattle.cvc_flat.specs.Tables.{names_on, net_at, path_of, text, way_at, ways_of}
+use Rattle.cvc_flat.proofs.Entered.{way_stays}
+use Rattle.cvc_flat.proofs.Joined.{has_joined, has_stays, plans_within, ports_here, ports_long, ports_more, ports_stay, ports_step}
+use Rattle.cvc_flat.proofs.Marks.{stepped}
+use Rattle.cvc_flat.proofs.States.{IsState, here, instance_is, last_split, levels_long, path_here, reverse_last}
+use Rattle.cvc_flat.proofs.Ways.{way_top}
+
+-- ## The begin
+
+drop_map : {A B : Type 0} (f : A → B) (k : ℕ) (xs : List A) → map f (drop k xs) ≡ drop k (map f xs)
+drop_map f zero xs = refl
+drop_map f (suc k) [] = refl
+drop_map f (suc k) (x ∷ xs) = drop_map f k xs
+
+drop_behind : {A : Type 0} (k : ℕ) (xs ys : List A) → k ≡ length xs → drop k (xs ++ ys) ≡ ys
+drop_behind zero [] ys e = refl
+drop_behind zero (x ∷ xs) ys e = absurd (omega (arith, e))
+drop_behind (suc k) [] ys e = absurd (omega (arith, e))
+drop_behind (suc k) (x ∷ xs) ys e = drop_behind k xs ys (omega (arith, e))
+
+module _ (n : Netlist) (p : Plan) (is : IsPlan n p) where
+  abbrev globals_at : List Opening
+  globals_at = map (λ (g : Global). opening_at g.line g.name) n.globals
+
+  globals_long : p.globals ≡ length globals_at
+  globals_long =
+      omega (arith, length-take-le p.globals p.cards.names is.below, ap length is.globals, length-map n.globals name_of_global, length-map n.globals (λ (g : Global). opening_at g.line g.name))
+
+  -- the ports of the top stand behind the globals
+  pub globals_open : p.globals ≤ length p.openings.items
+  globals_open =
+      omega (arith, globals_long, ap length is.openings, length-map p.openings.items (opening_of p.cards.names), length-append globals_at (map (opening_at (cell_at n []).line) (cell_at n []).ports))
+
+  tops : map (opening_of p.cards.names) (drop p.globals p.openings.items) ≡ map (opening_at (cell_at n []).line) (cell_at n []).ports
+  tops =
+      drop_map (opening_of p.cards.names) p.globals p.openings.items ∙ ap (drop p.globals) is.openings
+      ∙ drop_behind p.globals globals_at (map (opening_at (cell_at n []).line) (cell_at n []).ports) globals_long
+
+  opened_nets : (os : List OpeningPlan) → known_nets p.cards [] (map row_of_opening os) ≡ map net_of_opening (map (opening_of p.cards.names) os)
+  opened_nets [] = refl
+  opened_nets (o ∷ os) = λ i. net_within (names_on p.cards.names p.cards.parts.items (way_top [] i)) (text p.cards.names o.name) ∷ opened_nets os i
+
+  port_nets : (line : ℕ) (ports : List (List ℕ)) → map net_of_opening (map (opening_at line) ports) ≡ map (net_in n []) ports
+  unfolding net_of
+  port_nets line [] = refl
+  port_nets line (t ∷ ports) = λ i. top_net t ∷ port_nets line ports i
+
+  top_within : AreNetsWithin p [] (map row_of_opening (drop p.globals p.openings.items))
+  top_within = λ k d b.
+      let os = drop p.globals p.openings.items in
+      let o : OpeningPlan = record { name = 0; line = 0 } in
+      let inside : k < length os = omega (arith, length-map os row_of_opening, b) in
+      let there : p.globals + k < length p.openings.items = omega (arith, inside, length-drop p.globals p.openings.items) in
+      subst (λ (r : NetRow). (r.instance ≤ 0) × (r.name < length p.cards.names)) (sym (get_or-map row_of_opening os k o d inside))
+      (subst (λ (x : OpeningPlan). (0 ≤ 0) × (x.name < length p.cards.names)) (sym (get_or-drop p.globals p.openings.items k o))
+      (let zeroth : 0 ≤ 0 = omega arith in (zeroth, is.opened (p.globals + k) o there)))
+
+  top_has : HasPorts n p [] [] (map row_of_opening (drop p.globals p.openings.items))
+  unfolding net_of
+  top_has = record {
+    nets = opened_nets (drop p.globals p.openings.items) ∙ ap (map net_of_opening) tops ∙ port_nets (cell_at n []).line (cell_at n []).ports;
+    known = top_within;
+    own = λ name a b. refl;
+  }
+
+  pub ports_begin : (rows : List InstanceRow) (levels : List Level) (ports : List NetRow) (mark : Mark) (above : List Mark) → rows ≡ [] → levels ≡ [] → above ≡ [] → mark.first ≡ 0
+      → ports ≡ map row_of_opening (drop p.globals p.openings.items) → ArePorts n p rows (reverse levels) ports mark (reverse above)
+  ports_begin rows levels ports mark above a b e first at =
+      let inside : mark.first ≤ length ports = omega (arith, first) in
+      subst (λ r. ArePorts n p r (reverse levels) ports mark (reverse above)) (sym a)
+      (subst (λ l. ArePorts n p [] (reverse l) ports mark (reverse above)) (sym b)
+      (inside, subst (HasPorts n p [] []) (sym (ap (λ k. drop k ports) first ∙ at)) top_has))
+
+-- ## One visit
+
+module _ (n : Netlist) (p : Plan) (rows : List InstanceRow) (made : Made) (levels : List Level) (mark : Mark) (above : List Mark) (ports : List NetRow)
+    (s : IsState n p rows made levels mark above) (h : ArePorts n p rows (reverse levels) ports mark (reverse above)) where
+  abbrev mine : List NetRow
+  mine = drop mark.first ports
+
+  pub first_inside : mark.first ≤ length ports
+  first_inside = (ports_here n p rows (reverse levels) ports mark (reverse above) h).0
+
+  has_here : HasPorts n p rows (instance_of levels) mine
+  has_here = subst (λ q. HasPorts n p rows q mine) (instance_is levels) (ports_here n p rows (reverse levels) ports mark (reverse above) h).1
+
+  -- the instance that the walk is in
+  pub host_here : IsHost n p rows made (instance_of levels) mark.instance mine
+  host_here = record { sound = s.sound; inside = (here n p rows made levels mark above s).inside; path = path_here n p rows made levels mark above s; has = has_here }
+
+  pub mine_long : length mine ≡ length (cell_at n (instance_of levels)).ports
+  mine_long = ports_long n p rows (instance_of levels) mark.instance mine host_here.inside host_here.path has_here
+
+  cell_is : mark.cell.now ≡ cell_at n (instance_of levels)
+  cell_is = (here n p rows made levels mark above s).cell ∙ ap (cell_at n) (instance_is levels)
+
+  -- the same by the ports of the instance's cell
+  pub ports_of_cell : mark.cell.now.ports ≡ (cell_at n (instance_of levels)).ports
+  ports_of_cell = ap (λ (c : Cell). c.ports) cell_is
+
+  pub plans_inside : (x : InstCard) (qs : List PortPlan) → ArePortsOf n p.cards mark.cell.now.ports x qs → All (IsPlanWithin (length mine)) qs
+  plans_inside x qs z = plans_within p.cards.names _ mark.cell.now.ports _ _ (length mine) qs (mine_long ∙ ap length (sym ports_of_cell)) z
+
+  module _ (x : InstCard) (formed : IsFormedItem n.cells (items.Inst x)) (l : Level) (card : l.card.now ≡ x) (r : InstanceRow) (e : Mark) (qs : List PortPlan) (planned : ArePortsOf n p.cards mark.cell.now.ports x qs)
+      (entered : e.instance ≤ length (rows ++ r ∷ []))
+      (path : path_of p.cards.names p.cards.parts.items (way_at (ways_of (rows ++ r ∷ [])) e.instance) ≡ path_in n (x ∷ instance_of levels)) (first : e.first ≡ length ports) where
+    abbrev more : List InstanceRow
+    more = rows ++ r ∷ []
+
+    above_inside : mark.instance ≤ length more
+    above_inside = omega (arith, host_here.inside, length-append rows (r ∷ []))
+
+    above_path : path_of p.cards.names p.cards.parts.items (way_at (ways_of more) mark.instance) ≡ path_in n (instance_of levels)
+    above_path = ap (path_of p.cards.names p.cards.parts.items) (way_stays rows r mark.instance host_here.inside) ∙ host_here.path
+
+    new : List NetRow
+    new = map (port_row mark.instance mine e.instance) qs
+
+    new_has : HasPorts n p more (x ∷ instance_of levels) new
+    unfolding new
+    new_has =
+        has_joined n p more (instance_of levels) mark.instance mine above_inside above_path (has_stays n p rows r (instance_of levels) mine has_here) x e.instance entered path formed.0 qs
+        (subst (λ ps. ArePortsOf n p.cards ps x qs) ports_of_cell planned)
+
+    pub ports_joined : ArePorts n p more (reverse (levels ++ l ∷ [])) (ports ++ map (port_row mark.instance mine e.instance) qs) e (reverse (above ++ stepped mark ∷ []))
+    unfolding new
+    ports_joined =
+        subst (λ k. ArePorts n p more k (ports ++ new) e (reverse (above ++ stepped mark ∷ []))) (sym (reverse_last levels l))
+        (subst (ArePorts n p more (l ∷ reverse levels) (ports ++ new) e) (sym (reverse_last above (stepped mark)))
+        (ports_more n p more l (reverse levels) ports new e (stepped mark) (reverse above) first
+        (subst (λ q. HasPorts n p more q new) (λ i. card (~ i) ∷ instance_is levels (~ i)) new_has)
+        (ports_step n p more (reverse levels) ports mark (reverse above) (ports_stay n p rows r (reverse levels) ports mark (reverse above) h))))
+
+-- ## An instance is left
+
+pub ports_pops : (n : Netlist) (p : Plan) (rows : List InstanceRow) (made : Made) (mark : Mark) (levels new : List Level) (a : Mark) (old above : List Mark) (ports left : List NetRow) → IsState n p rows made levels mark old
+    → ArePorts n p rows (reverse levels) ports mark (reverse old) → old ≡ above ++ a ∷ [] → new ≡ take (length levels - 1) levels → left ≡ take mark.first ports → ArePorts n p rows (reverse new) left a (reverse above)
+ports_pops n p rows made mark levels new a old above ports left s h is at cut =
+    let some : 0 < length levels = omega (arith, levels_long n p rows made mark levels old s, ap length is, length-append above (a ∷ [])) in
+    let w = last_split levels some in
+    let split : levels ≡ new ++ w.0 ∷ [] = w.1 ∙ ap (λ l. l ++ w.0 ∷ []) (sym at) in
+    let both : ArePorts n p rows (w.0 ∷ reverse new) ports mark (a ∷ reverse above) =
+    subst (λ k. ArePorts n p rows k ports mark (a ∷ reverse above)) (ap reverse split ∙ reverse_last new w.0)
+    (subst (ArePorts n p rows (reverse levels) ports mark) (ap reverse is ∙ reverse_last above a) h) in
+    subst (λ q. ArePorts n p rows (reverse new) q a (reverse above)) (sym cut) both.2
