@@ -1,6 +1,7 @@
 -- The ports of the instances that a walk is in, state by state.
 use Rattle.std.proofs.Common.{◌≡◌, ℕ, zero, suc, ◌+◌, ◌-◌, ◌<◌, ◌≤◌, List, [], ◌∷◌, ◌++◌, length, map, get_or, drop, take, refl, sym, ap, subst, ◌∙◌, length-append, arith}
 use Rattle.std.specs.Prelude.{All, None, reverse}
+use Rattle.std.specs.Option.{option_map}
 use Rattle.std.proofs.lemmas.List.{get_or-drop, get_or-map, length-drop, length-map, length-take-le}
 use Rattle.cvc_card.specs.declared.card.InstCard.{InstCard}
 use Rattle.cvc_cdl.specs.declared.netlist.Cell.{Cell}
@@ -8,7 +9,8 @@ use Rattle.cvc_cdl.specs.declared.netlist.Global.{Global}
 use Rattle.cvc_cdl.specs.declared.netlist.Item.TheVariants as items
 use Rattle.cvc_cdl.specs.declared.netlist.Netlist.{Netlist}
 use Rattle.cvc_cdl.specs.Netlist.{name_of_global}
-use Rattle.cvc_cdl.specs.WellFormed.{IsFormedItem}
+use Rattle.cvc_cdl.specs.Building.{fault_at}
+use Rattle.cvc_cdl.specs.WellFormed.{IsFormedItem, IsWellFormed}
 use Rattle.cvc_flat.specs.declared.cards.OpeningPlan.{OpeningPlan}
 use Rattle.cvc_flat.specs.declared.cards.Plan.{Plan}
 use Rattle.cvc_flat.specs.declared.level.Level.{Level}
@@ -17,19 +19,19 @@ use Rattle.cvc_flat.specs.declared.rows.InstanceRow.{InstanceRow}
 use Rattle.cvc_flat.specs.declared.rows.NetRow.{NetRow}
 use Rattle.cvc_flat.specs.declared.steps.Made.{Made}
 use Rattle.cvc_flat.specs.declared.walk.Mark.{Mark}
-use Rattle.cvc_flat.specs.Flat.{Opening, opening_at}
-use Rattle.cvc_flat.specs.Instances.{Instance, cell_at, cell_for}
+use Rattle.cvc_flat.specs.Flat.{Opening, limits, opening_at}
+use Rattle.cvc_flat.specs.Instances.{cell_at, no_cell}
 use Rattle.cvc_flat.specs.Joining.{ArePorts, HasPorts, IsHost}
 use Rattle.cvc_flat.specs.Levels.{card_of, instance_of}
-use Rattle.cvc_flat.specs.Making.{AreNetsWithin, known_nets, net_of_opening}
+use Rattle.cvc_flat.specs.Making.{AreNetsWithin, instance_cause_in, known_nets, net_of_opening}
 use Rattle.cvc_flat.specs.Nets.{Net, net_in, net_of, net_within, path_of as path_in, top_net}
-use Rattle.cvc_flat.specs.Pins.{ArePins, IsPinWithin, IsPlanWithin, port_row, row_of_opening}
-use Rattle.cvc_flat.specs.Planning.{ArePinsOf, ArePortsOf, IsPlan, opening_of}
+use Rattle.cvc_flat.specs.Pins.{IsPlanWithin, port_row, row_of_opening}
+use Rattle.cvc_flat.specs.Planning.{ArePortsOf, IsInstPlan, IsPlan, all_cells, opening_of}
 use Rattle.cvc_flat.specs.Tables.{names_on, net_at, path_of, text, way_at, ways_of}
 use Rattle.cvc_flat.proofs.Entered.{way_stays}
 use Rattle.cvc_flat.proofs.Joined.{has_joined, has_stays, plans_within, ports_here, ports_long, ports_more, ports_stay, ports_step}
 use Rattle.cvc_flat.proofs.Marks.{stepped}
-use Rattle.cvc_flat.proofs.States.{IsState, here, instance_is, last_split, levels_long, path_here, reverse_last}
+use Rattle.cvc_flat.proofs.States.{IsState, entered_same, here, instance_is, last_split, levels_long, path_here, reverse_last, state_instance}
 use Rattle.cvc_flat.proofs.Ways.{way_top}
 
 -- ## The begin
@@ -155,8 +157,29 @@ module _ (n : Netlist) (p : Plan) (rows : List InstanceRow) (made : Made) (level
         subst (λ k. ArePorts n p more k (ports ++ new) e (reverse (above ++ stepped mark ∷ []))) (sym (reverse_last levels l))
         (subst (ArePorts n p more (l ∷ reverse levels) (ports ++ new) e) (sym (reverse_last above (stepped mark)))
         (ports_more n p more l (reverse levels) ports new e (stepped mark) (reverse above) first
-        (subst (λ q. HasPorts n p more q new) (λ i. card (~ i) ∷ instance_is levels (~ i)) new_has)
+        (subst (λ q. HasPorts n p more q new) (sym (λ i. card i ∷ instance_is levels i)) new_has)
         (ports_step n p more (reverse levels) ports mark (reverse above) (ports_stay n p rows r (reverse levels) ports mark (reverse above) h))))
+
+-- an instance is entered
+pub state_joined : (n : Netlist) (p : Plan) (rows : List InstanceRow) (made : Made) (levels : List Level) (mark : Mark) (above : List Mark) (ports : List NetRow) (s : IsState n p rows made levels mark above) (h : ArePorts n p rows (reverse levels) ports mark (reverse above))
+    (inside : mark.next < length mark.cell.now.items) (well : IsWellFormed n) (x : InstCard) (number cell : ℕ) (qs : List PortPlan) (l : Level) (r : InstanceRow) (e : Mark) (new_rows : List InstanceRow) (new_levels : List Level) (new_above : List Mark) (new_ports : List NetRow)
+    → new_levels ≡ levels ++ l ∷ [] → new_rows ≡ rows ++ r ∷ [] → new_above ≡ above ++ stepped mark ∷ [] → new_ports ≡ ports ++ map (port_row mark.instance (drop mark.first ports) e.instance) qs
+    → get_or mark.cell.now.items mark.next (items.Inst x) ≡ items.Inst x → IsInstPlan n p.cards x number cell → ArePortsOf n p.cards mark.cell.now.ports x qs → IsFormedItem n.cells (items.Inst x)
+    → option_map (fault_at x.line) (instance_cause_in limits (length rows) (length levels + 1)) ≡ None → length rows < 1000000 → length levels < 64
+    → l.card.now ≡ x → l.cell.now ≡ get_or (all_cells n) cell no_cell → r.parent ≡ mark.instance → r.card ≡ number → e.instance ≡ length rows + 1 → e.cell.now ≡ l.cell.now → e.plan ≡ cell → e.next ≡ 0 → e.first ≡ length ports
+    → IsState n p new_rows made new_levels e new_above × ArePorts n p new_rows (reverse new_levels) new_ports e (reverse new_above)
+state_joined n p rows made levels mark above ports s h inside well x number cell qs l r e new_rows new_levels new_above new_ports a b c d is plan joined formed none room short card known parent listed entered of_cell planned first begins =
+    let st : IsState n p (rows ++ r ∷ []) made (levels ++ l ∷ []) e (above ++ stepped mark ∷ []) = state_instance n p rows made levels mark above s inside well x number cell l r e is plan none room short card known parent listed entered of_cell planned first in
+    let there = here n p (rows ++ r ∷ []) made (levels ++ l ∷ []) e (above ++ stepped mark ∷ []) st in
+    let path : path_of p.cards.names p.cards.parts.items (way_at (ways_of (rows ++ r ∷ [])) e.instance) ≡ path_in n (x ∷ instance_of levels) =
+    there.path ∙ ap (λ k. path_in n (map card_of k)) (reverse_last levels l) ∙ ap (path_in n) (λ i. card i ∷ instance_is levels i) in
+    let all = ports_joined n p rows made levels mark above ports s h x formed l card r e qs joined there.inside path begins in (
+      entered_same n p rows new_rows made levels new_levels e above new_above r l (stepped mark) b a c st,
+      subst (λ k. ArePorts n p k (reverse new_levels) new_ports e (reverse new_above)) (sym b)
+          (subst (λ k. ArePorts n p (rows ++ r ∷ []) (reverse k) new_ports e (reverse new_above)) (sym a)
+          (subst (λ k. ArePorts n p (rows ++ r ∷ []) (reverse (levels ++ l ∷ [])) k e (reverse new_above)) (sym d)
+          (subst (λ k. ArePorts n p (rows ++ r ∷ []) (reverse (levels ++ l ∷ [])) (ports ++ map (port_row mark.instance (drop mark.first ports) e.instance) qs) e (reverse k)) (sym c) all))),
+    )
 
 -- ## An instance is left
 

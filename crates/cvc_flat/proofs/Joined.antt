@@ -84,19 +84,20 @@ module _ (n : Netlist) (p : Plan) (rows : List InstanceRow) where
 
     -- a port of an instance of a card in it, which has this number
     module _ (x : InstCard) (new : ℕ) (new_inside : new ≤ length rows) (new_path : path_of names parts (way_at (ways_of rows) new) ≡ path_in n (x ∷ within)) where
-      abbrev own : Net → Net
-      own t = t
-
       port_shown : (port : List ℕ) (q : PortPlan) → IsPortPlan names (global_names n) (cell_at n within).ports (net_given (link_in n x).connections port) port q
           → Shown (port_row i ports new q) (net_in n (x ∷ within) port)
       port_shown port (plans.Joined pin) h =
-          let above = pin_shown h.0 pin h.2 in
-          (above.0 ∙ sym (port_net (global_names n) (link_in n x) (path_in n within) port
-          ∙ ap (λ (o : Option (List ℕ)). option_map_or (net_of (global_names n) (path_in n within)) o (net_within (names_of (path_in n (x ∷ within))) port)) h.1), above.1)
-      port_shown port (plans.LeftOut k) h =
-          (ap (λ q. net_within (names_of q) (text names k)) new_path ∙ ap (net_within (names_of (path_in n (x ∷ within)))) h.1
-          ∙ sym (port_net (global_names n) (link_in n x) (path_in n within) port
-          ∙ ap (λ (o : Option (List ℕ)). option_map_or (net_of (global_names n) (path_in n within)) o (net_within (names_of (path_in n (x ∷ within))) port)) h.2), (new_inside, h.0))
+          let above = pin_shown h.0 pin h.2 in (
+            above.0 ∙ sym (port_net (global_names n) (link_in n x) (path_in n within) port
+                ∙ ap (λ (o : Option (List ℕ)). option_map_or (net_of (global_names n) (path_in n within)) o (net_within (names_of (path_in n (x ∷ within))) port)) h.1),
+            above.1,
+          )
+      port_shown port (plans.LeftOut k) h = (
+        ap (λ q. net_within (names_of q) (text names k)) new_path ∙ ap (net_within (names_of (path_in n (x ∷ within)))) h.1
+            ∙ sym (port_net (global_names n) (link_in n x) (path_in n within) port
+            ∙ ap (λ (o : Option (List ℕ)). option_map_or (net_of (global_names n) (path_in n within)) o (net_within (names_of (path_in n (x ∷ within))) port)) h.2),
+        (new_inside, h.0),
+      )
 
       ports_shown : (used : List (List ℕ)) (qs : List PortPlan) → ArePortPlans names (global_names n) (cell_at n within).ports (link_in n x).connections used qs
           → (known_nets p.cards rows (map (port_row i ports new) qs) ≡ map (net_in n (x ∷ within)) used) × AreNetsWithin p rows (map (port_row i ports new) qs)
@@ -161,9 +162,11 @@ take_front (x ∷ xs) ys = ap (λ l. x ∷ l) (take_front xs ys)
 pub ports_more : (n : Netlist) (p : Plan) (rows : List InstanceRow) (l : Level) (ls : List Level) (ports new : List NetRow) (e a : Mark) (above : List Mark) → e.first ≡ length ports
     → HasPorts n p rows (card_of l ∷ map card_of ls) new → ArePorts n p rows ls ports a above → ArePorts n p rows (l ∷ ls) (ports ++ new) e (a ∷ above)
 ports_more n p rows l ls ports new e a above at has rest =
-    let inside : e.first ≤ length (ports ++ new) = omega (arith, at, length-append ports new) in
-    (inside, subst (HasPorts n p rows (card_of l ∷ map card_of ls)) (sym (ap (λ k. drop k (ports ++ new)) at ∙ drop_front ports new)) has,
-    subst (λ q. ArePorts n p rows ls q a above) (sym (ap (λ k. take k (ports ++ new)) at ∙ take_front ports new)) rest)
+    let inside : e.first ≤ length (ports ++ new) = omega (arith, at, length-append ports new) in (
+      inside,
+      subst (HasPorts n p rows (card_of l ∷ map card_of ls)) (sym (ap (λ k. drop k (ports ++ new)) at ∙ drop_front ports new)) has,
+      subst (λ q. ArePorts n p rows ls q a above) (sym (ap (λ k. take k (ports ++ new)) at ∙ take_front ports new)) rest,
+    )
 
 -- ## Nets behind others
 
@@ -194,10 +197,11 @@ pub pin_next : (p : Plan) (rows : List InstanceRow) (i : ℕ) (ports : List NetR
     × ((a.instance ≤ length rows) × (a.name < length p.cards.names))
 pin_next p rows i ports items j d a h e within =
     let f : Pin → NetRow = pin_row i ports in
-    let show : NetRow → Net = net_at p.cards.names p.cards.parts.items (ways_of rows) in
-    (ap (λ l. map show (map f l)) (take_more items j d h) ∙ ap (map show) (map-append f (take j items) (get_or items j d ∷ [])) ∙ map-append show (map f (take j items)) (f (get_or items j d) ∷ [])
-    ∙ ap (λ r. map show (map f (take j items)) ++ show r ∷ []) (sym e),
-    subst (λ (r : NetRow). (r.instance ≤ length rows) × (r.name < length p.cards.names)) (get_or-map f items j d no_net_row h ∙ sym e) (within j no_net_row (omega (arith, length-map items f, h))))
+    let show : NetRow → Net = net_at p.cards.names p.cards.parts.items (ways_of rows) in (
+      ap (λ l. map show (map f l)) (take_more items j d h) ∙ ap (map show) (map-append f (take j items) (get_or items j d ∷ [])) ∙ map-append show (map f (take j items)) (f (get_or items j d) ∷ [])
+          ∙ ap (λ r. map show (map f (take j items)) ++ show r ∷ []) (sym e),
+      subst (λ (r : NetRow). (r.instance ≤ length rows) × (r.name < length p.cards.names)) (get_or-map f items j d no_net_row h ∙ sym e) (within j no_net_row (omega (arith, length-map items f, h))),
+    )
 
 pub pins_within : (names globals ports wanted : List (List ℕ)) (count : ℕ) (ps : List Pin) → count ≡ length ports → ArePins names globals ports wanted ps → All (IsPinWithin count) ps
 pins_within names globals ports [] count [] e z = λ k d b. absurd (omega (arith, b))

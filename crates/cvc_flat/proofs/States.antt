@@ -406,29 +406,8 @@ state_done n p rows made mark levels above s e h = state_ends n p rows made mark
 pub same_item : (its : List Item) (k : ℕ) (item is : Item) → item ≡ get_or its k item → item ≡ is → get_or its k is ≡ is
 same_item its k item is e q = subst (λ (x : Item). get_or its k x ≡ x) q (sym e)
 
-pub cause_same : (A : Type 0) (n : Netlist) (p : Plan) (lent rows : List InstanceRow) (made : Made) (levels lent_levels : List Level) (d : DeviceCard) (result : Result A Refusal) → lent ≡ rows → lent_levels ≡ levels
-    → Refuses {A = A} (option_map (fault_at d.line) (device_cause_in limits n (length made.devices.items) (known_nets p.cards lent made.nets) (instance_of lent_levels) d)) result
-    → Refuses {A = A} (option_map (fault_at d.line) (device_cause_in limits n (length made.devices.items) (known_nets p.cards rows made.nets) (instance_of levels) d)) result
-cause_same A n p lent rows made levels lent_levels d result a b h =
-    subst (λ l. Refuses {A = A} (option_map (fault_at d.line) (device_cause_in limits n (length made.devices.items) (known_nets p.cards rows made.nets) (instance_of l) d)) result) b
-    (subst (λ r. Refuses {A = A} (option_map (fault_at d.line) (device_cause_in limits n (length made.devices.items) (known_nets p.cards r made.nets) (instance_of lent_levels) d)) result) a h)
-
-pub added_same : (n : Netlist) (p : Plan) (lent rows : List InstanceRow) (made new : Made) (levels lent_levels : List Level) (d : DeviceCard) → lent ≡ rows → lent_levels ≡ levels → AddsDevice n p lent made new (instance_of lent_levels) d → AddsDevice n p rows made new (instance_of levels) d
-added_same n p lent rows made new levels lent_levels d a b h = subst (λ l. AddsDevice n p rows made new (instance_of l) d) b (subst (λ r. AddsDevice n p r made new (instance_of lent_levels) d) a h)
-
 -- the state in an instance that is entered, by its parts
 pub entered_same : (n : Netlist) (p : Plan) (rows new_rows : List InstanceRow) (made : Made) (levels new_levels : List Level) (e : Mark) (above new_above : List Mark) (r : InstanceRow) (l : Level) (a : Mark) → new_rows ≡ rows ++ r ∷ [] → new_levels ≡ levels ++ l ∷ [] → new_above ≡ above ++ a ∷ []
     → IsState n p (rows ++ r ∷ []) made (levels ++ l ∷ []) e (above ++ a ∷ []) → IsState n p new_rows made new_levels e new_above
 entered_same n p rows new_rows made levels new_levels e above new_above r l a x y z s =
     subst (λ k. IsState n p k made new_levels e new_above) (sym x) (subst (λ k. IsState n p (rows ++ r ∷ []) made k e new_above) (sym y) (subst (IsState n p (rows ++ r ∷ []) made (levels ++ l ∷ []) e) (sym z) s))
-
-pub state_entered : (n : Netlist) (p : Plan) (rows : List InstanceRow) (made : Made) (levels : List Level) (mark : Mark) (above : List Mark) (s : IsState n p rows made levels mark above) (inside : mark.next < length mark.cell.now.items)
-    (well : IsWellFormed n) (x : InstCard) (number cell : ℕ) (l : Level) (r : InstanceRow) (e : Mark) (new_rows : List InstanceRow) (new_levels : List Level) (new_above : List Mark)
-    → new_levels ≡ levels ++ l ∷ [] → new_rows ≡ rows ++ r ∷ [] → new_above ≡ above ++ stepped mark ∷ []
-    → get_or mark.cell.now.items mark.next (items.Inst x) ≡ items.Inst x → IsInstPlan n p.cards x number cell
-    → option_map (fault_at x.line) (instance_cause_in limits (length rows) (length levels + 1)) ≡ None → length rows < 1000000 → length levels < 64
-    → l.card.now ≡ x → l.cell.now ≡ get_or (all_cells n) cell no_cell → r.parent ≡ mark.instance → r.card ≡ number → e.instance ≡ length rows + 1 → e.cell.now ≡ l.cell.now → e.plan ≡ cell → e.next ≡ 0
-    → IsState n p new_rows made new_levels e new_above
-state_entered n p rows made levels mark above s inside well x number cell l r e new_rows new_levels new_above a b c is plan none room short card known parent listed entered of_cell planned first =
-    entered_same n p rows new_rows made levels new_levels e above new_above r l (stepped mark) b a c
-    (state_instance n p rows made levels mark above s inside well x number cell l r e is plan none room short card known parent listed entered of_cell planned first)

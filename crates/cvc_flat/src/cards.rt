@@ -201,9 +201,7 @@ fn cell_plan(
     let ports = port_names(alloc, cell.ports.as_slice())?;
     let mut plans = Vec::new(alloc);
     for item in cell.items.as_slice() {
-        plans.push(item_plan(
-            alloc, netlist, names, cards, globals, &ports, item,
-        )?)?;
+        plans.push(item_plan(alloc, netlist, names, cards, globals, &ports, item)?)?;
     }
     Ok(CellPlan { items: plans })
 }

@@ -51,12 +51,7 @@ pub(crate) fn port_names(alloc: Global, ports: &[Text]) -> Result<Names, NoMemor
 }
 
 // The pin of a name in a cell of these ports. Names below `globals` are global.
-fn pin_of(
-    names: &mut Names,
-    globals: usize,
-    ports: &Names,
-    name: &[u8],
-) -> Result<Pin, NoMemory>
+fn pin_of(names: &mut Names, globals: usize, ports: &Names, name: &[u8]) -> Result<Pin, NoMemory>
     requires { globals ≤ length names.old }
     ensures grows { IfOk result (λ pin. Grows names.old names.new) }
     ensures pin { IfOk result (IsPin names.new (take globals names.old) ports.now name.now) }
@@ -102,13 +97,13 @@ fn port_plan(
     ensures grows { IfOk result (λ plan. Grows names.old names.new) }
     ensures plan { IfOk result (IsPortPlan names.new (take globals names.old) ports.now (option_map (λ text. text.now) net.entry) port.now) }
 {
-    let own = number(names, port)?;
-    if (own as usize) < globals {
-        return Ok(PortPlan::Joined(Pin::Global(own)));
+    let name = number(names, port)?;
+    if (name as usize) < globals {
+        return Ok(PortPlan::Joined(Pin::Global(name)));
     }
     match net {
         Some(net) => Ok(PortPlan::Joined(pin_of(names, globals, ports, net)?)),
-        None => Ok(PortPlan::LeftOut(own)),
+        None => Ok(PortPlan::LeftOut(name)),
     }
 }
 

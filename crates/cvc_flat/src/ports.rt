@@ -31,6 +31,14 @@ fn net_of_port(above: u32, ports: &[NetRow], instance: u32, plan: PortPlan) -> N
     }
 }
 
+// The nets of ports from this place on.
+pub(crate) fn ports_from(ports: &[NetRow], first: usize) -> &[NetRow]
+    requires { first ≤ length ports.now }
+    ensures { result.now ≡ drop first ports.now }
+{
+    &ports[first..]
+}
+
 // The nets of the ports of the top, which is opened behind so many globals.
 pub(crate) fn top_ports(
     alloc: Global,

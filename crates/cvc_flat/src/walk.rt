@@ -16,7 +16,7 @@ use crate::level::Level;
 use crate::nets::NetTable;
 use crate::pair_lists::lists_of;
 use crate::params::{Lists, Sight};
-use crate::ports::{join, top_ports};
+use crate::ports::{join, ports_from, top_ports};
 use crate::rows::InstanceRow;
 use crate::steps::{Made, Source, enter, opened, place};
 use cvc_base::{NoMemory, Refusal, Text};
@@ -67,7 +67,8 @@ fn walk<'n>(
         devices: Vec::new(alloc),
         groups: Vec::new(alloc),
     };
-    let mut ports = top_ports(alloc, source.plan.openings.as_slice(), source.plan.globals)?;
+    let openings = source.plan.openings.as_slice();
+    let mut ports = top_ports(alloc, openings, source.plan.globals)?;
     let mut sight = start;
     let mut above: Vec<Mark<'_>> = Vec::new(alloc);
     let mut mark = Mark {
@@ -93,12 +94,13 @@ fn walk<'n>(
         mark.next += 1;
         match (item, &plans.items[mark.next - 1]) {
             (Item::Device(card), ItemPlan::Device(number, device)) => {
+                let own = ports_from(&ports, mark.first);
                 place(
                     alloc,
                     source,
                     &sight,
                     mark.instance,
-                    &ports[mark.first..],
+                    own,
                     card,
                     *number,
                     device,
@@ -119,13 +121,8 @@ fn walk<'n>(
                     cell: used.own,
                 };
                 let first = ports.len();
-                join(
-                    &mut ports,
-                    mark.first,
-                    mark.instance,
-                    instance,
-                    plan.ports.as_slice(),
-                )?;
+                let plans = plan.ports.as_slice();
+                join(&mut ports, mark.first, mark.instance, instance, plans)?;
                 above.push(mark)?;
                 sight.enter(Level { card, cell }, numbers)?;
                 mark = Mark {

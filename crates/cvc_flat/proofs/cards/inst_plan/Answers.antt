@@ -23,11 +23,13 @@ returns-clause-plan c = λ n globals inside at used.
     let link = part_stays first new part grown c.in_ok-part.ensures.within ∙ c.in_ok-part.ensures.link ∙ (λ i. record { name = card.name; connections = connections_of (cell i) card.ports }) in
     let fronts = front_stays old first g c.in_ok-part.ensures.grows c.requires.below ∙ globals in
     let ups : List (List ℕ) = (cell_for n card.cell).ports in
-    let more = c.in_ok-push.ensures.items in
-    (record {
-      inside = omega (arith, c.in_ok-number.ensures, c.len.ensures, ap length more, length-append c.args.cards.now.parts.items (part ∷ []));
-      link = part_listed new c.args.cards.now.parts.items c.push.new.self.items c.in_ok-number.number part _ more (omega (arith, c.in_ok-number.ensures, c.len.ensures)) link;
-      known = omega (arith, c.in_ok-cell.ensures, inside);
-      used = ap (λ k. get_or n.cells k no_cell) c.in_ok-cell.ensures ∙ at ∙ sym used;
-    }, subst (λ gs. ArePortPlans new gs ports (connections_of ups card.ports) ups plans) fronts
-    (subst (λ us. ArePortPlans new (take g first) ports (connections_of us card.ports) us plans) cell c.in_ok-plans.ensures.plans))
+    let more = c.in_ok-push.ensures.items in (
+      record {
+        inside = omega (arith, c.in_ok-number.ensures, c.len.ensures, ap length more, length-append c.args.cards.now.parts.items (part ∷ []));
+        link = part_listed new c.args.cards.now.parts.items c.push.new.self.items c.in_ok-number.number part _ more (omega (arith, c.in_ok-number.ensures, c.len.ensures)) link;
+        known = omega (arith, c.in_ok-cell.ensures, inside);
+        used = ap (λ k. get_or n.cells k no_cell) c.in_ok-cell.ensures ∙ at ∙ sym used;
+      },
+      subst (λ gs. ArePortPlans new gs ports (connections_of ups card.ports) ups plans) fronts
+          (subst (λ us. ArePortPlans new (take g first) ports (connections_of us card.ports) us plans) cell c.in_ok-plans.ensures.plans),
+    )

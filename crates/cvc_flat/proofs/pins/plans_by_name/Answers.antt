@@ -28,8 +28,8 @@ loop-port-preserved c =
     let e = c.in_ok-port_plan.ensures in
     let net : option_map text_of c.net_among-net.result ≡ net_given pairs port = c.net_among-net.ensures ∙ ap (net_given pairs) c.bytes.ensures in
     let is = subst (λ (o : Option (List ℕ)). IsPortPlan new globals ports o port q) net
-        (subst (λ gs. IsPortPlan new gs ports (option_map text_of c.net_among-net.result) port q) (front_stays first old g inv.grows c.requires.below)
-        (subst (λ t. IsPortPlan new (take g old) ports (option_map text_of c.net_among-net.result) t q) c.bytes-in-loop-port.ensures e.plan)) in
+    (subst (λ gs. IsPortPlan new gs ports (option_map text_of c.net_among-net.result) port q) (front_stays first old g inv.grows c.requires.below)
+    (subst (λ t. IsPortPlan new (take g old) ports (option_map text_of c.net_among-net.result) t q) c.bytes-in-loop-port.ensures e.plan)) in
     record {
       grows = grows_twice first old new inv.grows e.grows;
       plans = zip_more (λ t r. IsPortPlan new globals ports (net_given pairs t) t r) used k port c.loop-port.plans.items c.push.new.self.items q c.loop-port-test.true c.port-item.is c.in_ok-push.ensures.items

@@ -30,8 +30,8 @@ loop-place-preserved c =
     ap Some (c.bytes.ensures ∙ c.index-nets-place.is ∙ get_or_default nets k c.index-nets-place.result [] (omega (arith, c.requires.fits, c.loop-place-test.true)))
     ∙ sym (given_at used nets k c.requires.once c.requires.fits c.loop-place-test.true) ∙ sym (ap (net_given pairs) there) in
     let is = subst (λ (o : Option (List ℕ)). IsPortPlan new globals ports o port q) net
-        (subst (λ gs. IsPortPlan new gs ports (Some c.bytes.result.now) port q) (front_stays first old g inv.grows c.requires.below)
-        (subst (λ t. IsPortPlan new (take g old) ports (Some c.bytes.result.now) t q) c.bytes-in-loop-place.ensures e.plan)) in
+    (subst (λ gs. IsPortPlan new gs ports (Some c.bytes.result.now) port q) (front_stays first old g inv.grows c.requires.below)
+    (subst (λ t. IsPortPlan new (take g old) ports (Some c.bytes.result.now) t q) c.bytes-in-loop-place.ensures e.plan)) in
     record {
       grows = grows_twice first old new inv.grows e.grows;
       plans = zip_more (λ t r. IsPortPlan new globals ports (net_given pairs t) t r) used k port c.loop-place.plans.items c.push.new.self.items q c.loop-place-test.true c.index-used-place.is c.in_ok-push.ensures.items
