@@ -24,10 +24,10 @@ use Rattle.cvc_flat.specs.Instances.{cell_at, no_cell}
 use Rattle.cvc_flat.specs.Joining.{ArePorts, HasPorts, IsHost}
 use Rattle.cvc_flat.specs.Levels.{card_of, instance_of}
 use Rattle.cvc_flat.specs.Making.{AreNetsWithin, instance_cause_in, known_nets, net_of_opening}
-use Rattle.cvc_flat.specs.Nets.{Net, net_in, net_of, net_within, path_of as path_in, top_net}
+use Rattle.cvc_flat.specs.Nets.{net_in, net_of, net_within, path_of as path_in, top_net}
 use Rattle.cvc_flat.specs.Pins.{IsPlanWithin, port_row, row_of_opening}
 use Rattle.cvc_flat.specs.Planning.{ArePortsOf, IsInstPlan, IsPlan, all_cells, opening_of}
-use Rattle.cvc_flat.specs.Tables.{names_on, net_at, path_of, text, way_at, ways_of}
+use Rattle.cvc_flat.specs.Tables.{names_on, path_of, text, way_at, ways_of}
 use Rattle.cvc_flat.proofs.Entered.{way_stays}
 use Rattle.cvc_flat.proofs.Joined.{has_joined, has_stays, plans_within, ports_here, ports_long, ports_more, ports_stay, ports_step}
 use Rattle.cvc_flat.proofs.Marks.{stepped}

@@ -1,15 +1,12 @@
 -- The nets of pins and of ports in the instances that a walk is in.
-use Rattle.std.proofs.Common.{◌≡◌, ℕ, suc, ◌+◌, ◌-◌, ◌<◌, ◌≤◌, false, List, [], ◌∷◌, ◌++◌, length, map, get_or, drop, take, refl, sym, ap, subst, ◌∙◌, length-append, arith}
-use Rattle.std.specs.Prelude.{All, Option, Some, None, reverse}
-use Rattle.std.specs.List.{AllZip}
+use Rattle.std.proofs.Common.{◌≡◌, ℕ, ◌+◌, ◌<◌, ◌≤◌, List, [], ◌∷◌, ◌++◌, length, map, get_or, drop, take, refl, sym, ap, subst, ◌∙◌, length-append, arith}
+use Rattle.std.specs.Prelude.{All, Option, None}
 use Rattle.std.specs.Option.{option_map_or}
 use Rattle.std.proofs.lemmas.List.{get_or-drop, get_or-map, get_or_append_left, length-drop, length-map, map-append, take_more}
 use Rattle.cvc_base.specs.declared.param.Pair.{Pair}
 use Rattle.cvc_card.specs.declared.card.InstCard.{InstCard}
 use Rattle.cvc_cdl.specs.declared.netlist.Netlist.{Netlist}
-use Rattle.cvc_cdl.specs.Building.{is_among}
 use Rattle.cvc_cdl.specs.Ending.{instance_cause}
-use Rattle.cvc_flat.specs.declared.cards.OpeningPlan.{OpeningPlan}
 use Rattle.cvc_flat.specs.declared.cards.Plan.{Plan}
 use Rattle.cvc_flat.specs.declared.level.Level.{Level}
 use Rattle.cvc_flat.specs.declared.pins.Pin.{Pin}
@@ -25,7 +22,7 @@ use Rattle.cvc_flat.specs.Joining.{ArePorts, HasPorts}
 use Rattle.cvc_flat.specs.Levels.{card_of}
 use Rattle.cvc_flat.specs.Making.{AreNetsWithin, known_nets}
 use Rattle.cvc_flat.specs.Nets.{Net, global_names, link_of as link_in, names_of, net_in, net_of, net_within, path_of as path_in, top_net}
-use Rattle.cvc_flat.specs.Pins.{ArePins, ArePortPlans, IsPin, IsPinWithin, IsPlanWithin, IsPortPlan, net_given, no_net_row, pin_row, port_row, stands_for}
+use Rattle.cvc_flat.specs.Pins.{ArePins, ArePortPlans, IsPin, IsPinWithin, IsPlanWithin, IsPortPlan, net_given, no_net_row, pin_row, port_row}
 use Rattle.cvc_flat.specs.Tables.{names_on, net_at, path_of, text, way_at, ways_of}
 use Rattle.cvc_flat.proofs.Entered.{way_stays}
 use Rattle.cvc_flat.proofs.Growing.{map_alike}

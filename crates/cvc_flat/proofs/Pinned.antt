@@ -1,13 +1,12 @@
 -- Pins: what they are as names grow, and the nets that they stand for.
-use Rattle.std.proofs.Common.{◌≡◌, ℕ, zero, suc, ◌<◌, ◌≤◌, ◌||◌, Bool, true, false, List, [], ◌∷◌, ◌++◌, length, take, get_or, refl, sym, ap, ◌∙◌, arith, ltb}
+use Rattle.std.proofs.Common.{◌≡◌, ℕ, zero, suc, ◌<◌, ◌≤◌, Bool, true, false, List, [], ◌∷◌, ◌++◌, length, take, get_or, refl, sym, ap, ◌∙◌, arith, ltb}
 use Rattle.std.specs.Prelude.{Option, Some, None, find, if◌then◌else◌}
-use Rattle.std.specs.List.{list_all, list_any}
+use Rattle.std.specs.List.{list_any}
 use Rattle.std.specs.Option.{option_map, option_map_or, unwrap_or}
 use Rattle.std.specs.Str.{bytes_eq}
 use Rattle.std.specs.Cmp.Lexicographic.{bytes_decides}
 use Rattle.std.proofs.lemmas.Bool.{false≢true, lt-ltb, ltb-true}
 use Rattle.std.proofs.lemmas.List.Sums.{fails_before_first}
-use Rattle.cvc_base.specs.declared.cause.Cause.{Cause}
 use Rattle.cvc_base.specs.declared.cause.Cause.TheVariants.{UnknownPort}
 use Rattle.cvc_base.specs.declared.param.Pair.{Pair}
 use Rattle.cvc_card.specs.Card.{has_twice}
@@ -23,7 +22,7 @@ use Rattle.cvc_flat.specs.declared.pins.PortPlan.{PortPlan}
 use Rattle.cvc_flat.specs.declared.pins.PortPlan.TheVariants as plans
 use Rattle.cvc_flat.specs.Instances.{no_cell}
 use Rattle.cvc_flat.specs.Names.{AreApart, Grows, place_of}
-use Rattle.cvc_flat.specs.Nets.{Link, Net, Path, connected, connections_of, names_of, net_of, net_within, paired, top_net}
+use Rattle.cvc_flat.specs.Nets.{Link, Path, connected, connections_of, names_of, net_of, net_within, paired, top_net}
 use Rattle.cvc_flat.specs.Pins.{IsPin, IsPinWithin, IsPlanWithin, IsPortPlan, net_given, stands_for}
 use Rattle.cvc_flat.specs.Tables.{text}
 use Rattle.cvc_flat.proofs.Growing.{grows_length, grows_text}

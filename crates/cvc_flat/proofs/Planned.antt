@@ -42,9 +42,9 @@ use Rattle.cvc_flat.specs.Pins.{ArePins, ArePortPlans, IsPin, IsPortPlan, net_gi
 use Rattle.cvc_flat.specs.Planning.{AreCellPlans, AreSoundCards, CardsGrow, IsCellPlan, IsDevicePlan, IsInstPlan, IsItemPlan, opening_of}
 use Rattle.cvc_flat.specs.Plans.{IsPlanOf}
 use Rattle.cvc_flat.specs.Tables.{IsPart, link_at, link_of, no_part, part_at}
-use Rattle.cvc_flat.proofs.Growing.{grows_connections, grows_length, grows_none, grows_numbers, grows_pairs, grows_text, grows_texts, grows_twice, map_alike}
+use Rattle.cvc_flat.proofs.Growing.{grows_connections, grows_length, grows_none, grows_pairs, grows_text, grows_twice, map_alike}
 use Rattle.cvc_flat.proofs.Lists.{all_one, none_first, or_first, or_second, place_map}
-use Rattle.cvc_flat.proofs.Pinned.{front_stays, pin_stays, plan_stays as port_plan_stays}
+use Rattle.cvc_flat.proofs.Pinned.{pin_stays, plan_stays as port_plan_stays}
 use Rattle.cvc_flat.proofs.Resolving.{place_among}
 use Rattle.cvc_flat.proofs.Writing.{link_is}
 

@@ -1,6 +1,6 @@
 -- The states of a walk: what is known at each visit, and what one more visit makes of it.
 use Rattle.std.proofs.Common.{◌≡◌, ℕ, suc, take, ◌-◌, ◌+◌, ◌<◌, ◌≤◌, List, [], ◌∷◌, ◌++◌, length, map, get_or, drop, refl, sym, ap, subst, ◌∙◌, length-append, arith}
-use Rattle.std.specs.Prelude.{All, Some, None, Result, Err, reverse}
+use Rattle.std.specs.Prelude.{All, Some, None, Err, reverse}
 use Rattle.std.specs.List.{AllZip}
 use Rattle.std.specs.Option.{option_map}
 use Rattle.std.proofs.lemmas.List.{append-nil, get_or_append_left, length-drop, length-map, length-reverse, reverse-append, take_all, take_more}

@@ -1,7 +1,7 @@
 -- Names of a cell, found once for all of its instances. A name is global, or that of a port of the cell, or it is a name of the instance itself. So the
 -- net of a pin in an instance follows from the instance's number and the nets of its ports alone. A port of an instance's cell is connected to a name of
 -- the cell that the instance stands in, or it is left out.
-use Rattle.std.specs.Prelude.{◌≡◌, ℕ, ◌<◌, Bool, true, false, List, map, length, Option, Some, None, find, if◌then◌else◌, slice_index_or}
+use Rattle.std.specs.Prelude.{◌≡◌, ℕ, ◌<◌, true, false, List, length, Option, Some, None, find, if◌then◌else◌, slice_index_or}
 use Rattle.std.specs.List.{AllZip}
 use Rattle.std.specs.Option.{option_map}
 use Rattle.std.specs.Str.{bytes_eq}

@@ -1,10 +1,10 @@
-use Rattle.std.proofs.Common.{◌≡◌, ◌<◌, length, map, get_or, Some, None, sym, ap, ◌∙◌}
-use Rattle.std.specs.Prelude.{Option, position}
+use Rattle.std.proofs.Common.{◌≡◌, Some, None, sym, ap, ◌∙◌}
+use Rattle.std.specs.Prelude.{position}
 use Rattle.std.specs.Option.{option_map}
 use Rattle.std.specs.Str.{bytes_eq}
 use Rattle.cvc_base.specs.declared.param.Pair.{Pair}
 use Rattle.cvc_flat.specs.Names.{place_of}
-use Rattle.cvc_flat.specs.Pins.{name_of_pair, net_given}
+use Rattle.cvc_flat.specs.Pins.{name_of_pair}
 use Rattle.cvc_flat.proofs.Lists.{place_map}
 use Rattle.cvc_flat.proofs.Planned.{first_found, none_found}
 use Rattle.cvc_flat.proofs.pins.net_among.Goals as goal

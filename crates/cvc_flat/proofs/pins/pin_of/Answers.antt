@@ -1,6 +1,5 @@
-use Rattle.std.proofs.Common.{◌≡◌, ℕ, ◌<◌, ◌≤◌, List, [], length, get_or, take, true, false, refl, sym, ap, ◌∙◌, arith}
+use Rattle.std.proofs.Common.{◌≡◌, ◌<◌, ◌≤◌, [], length, get_or, sym, ap, ◌∙◌, arith}
 use Rattle.cvc_cdl.specs.Building.{is_among}
-use Rattle.cvc_flat.specs.Names.{place_of}
 use Rattle.cvc_flat.proofs.Growing.{grows_length}
 use Rattle.cvc_flat.proofs.Lists.{place_below, text_at_place}
 use Rattle.cvc_flat.proofs.Pinned.{among_globals, front_stays, not_among, past_globals}

@@ -1,4 +1,4 @@
-use Rattle.std.proofs.Common.{◌≡◌, ◌≤◌, length, take, sym, ap, subst, ◌∙◌, arith}
+use Rattle.std.proofs.Common.{take, subst, ◌∙◌, arith}
 use Rattle.cvc_flat.specs.Pins.{ArePins}
 use Rattle.cvc_flat.proofs.Growing.{grows_length, grows_text, grows_twice}
 use Rattle.cvc_flat.proofs.Pinned.{front_stays}

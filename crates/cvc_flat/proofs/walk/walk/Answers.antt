@@ -20,7 +20,7 @@ use Rattle.cvc_flat.specs.Pins.{ArePins, IsPlanWithin, port_row, row_of_opening}
 use Rattle.cvc_flat.specs.Planning.{IsInstPlan, IsItemPlan}
 use Rattle.cvc_flat.proofs.Hosting.{first_inside, globals_open, host_here, mine_long, plans_inside, ports_begin, ports_of_cell, ports_pops, state_joined}
 use Rattle.cvc_flat.proofs.Joined.{ports_step}
-use Rattle.cvc_flat.proofs.States.{fault_device, fault_instance, here, item_formed, item_planned, items_planned, plan_inside, same_item, state_begins, state_device, state_done, state_pops}
+use Rattle.cvc_flat.proofs.States.{fault_device, fault_instance, item_formed, item_planned, items_planned, plan_inside, same_item, state_begins, state_device, state_done, state_pops}
 use Rattle.cvc_flat.proofs.Seen.{card_listed, items_listed, lists_inside, sees_on, some_level, used_cell, used_inside, used_listed}
 use Rattle.cvc_flat.proofs.walk.walk.Goals as goal
 use Rattle.cvc_flat.proofs.walk.walk.Goals.{in_default-2-via-in-Device+in_default, in_default-2-via-in-Inst+in_default}
