@@ -1,5 +1,5 @@
 -- One more device in the tables.
-use Rattle.std.proofs.Common.{◌≡◌, ℕ, ◌+◌, ◌<◌, ◌≤◌, List, [], ◌∷◌, ◌++◌, length, map, take, get_or, refl, sym, ap, subst, ◌∙◌, length-append, arith}
+use Rattle.std.proofs.Common.{◌≡◌, ℕ, ◌+◌, ◌<◌, ◌≤◌, List, [], ◌∷◌, ◌++◌, length, map, get_or, refl, sym, ap, subst, ◌∙◌, length-append, arith}
 use Rattle.std.specs.Prelude.{All, Option}
 use Rattle.std.specs.List.{filter_map}
 use Rattle.std.specs.Option.{unwrap_or}
@@ -20,10 +20,10 @@ use Rattle.cvc_flat.specs.declared.rows.NetRow.{NetRow}
 use Rattle.cvc_flat.specs.declared.steps.Made.{Made}
 use Rattle.cvc_flat.specs.Flat.{FlatDevice, Placed, device_at as placed_at, devices_behind, instance_at, flat_device, instances_behind, net_id, nets_behind, nets_once, pins_of}
 use Rattle.cvc_flat.specs.Instances.{Instance, names_to}
-use Rattle.cvc_flat.specs.Making.{AddsDevice, NumbersPins, Shows, known_nets, names_nets, tables_of}
-use Rattle.cvc_flat.specs.Nets.{Net, global_names, names_of, net_in, net_of, path_of as path_in}
+use Rattle.cvc_flat.specs.Making.{AddsDevice, NumbersPins, Shows, known_nets, tables_of}
+use Rattle.cvc_flat.specs.Nets.{Net, names_of, net_in, path_of as path_in}
 use Rattle.cvc_flat.specs.Params.{params_in}
-use Rattle.cvc_flat.specs.Planning.{IsDevicePlan, IsPlan}
+use Rattle.cvc_flat.specs.Planning.{IsDevicePlan}
 use Rattle.cvc_flat.specs.Sharing.{TakesGroup}
 use Rattle.cvc_flat.specs.Tables.{IsDevice, IsSound, Tables, Way, device_at, group_at, names_on, net_at, no_group, part_at, path_of, text, way_at, ways_of}
 use Rattle.cvc_flat.specs.Walk.{Visit}
@@ -39,37 +39,23 @@ pub path_names : (n : Netlist) (p : Instance) → names_of (path_in n p) ≡ nam
 path_names n [] = refl
 path_names n (x ∷ p) = ap (λ l. x.name ∷ l) (path_names n p)
 
-pins_by_numbers : (n : Netlist) (p : Plan) (way : Way) (within : Instance) (ks : List ℕ) → take p.globals p.cards.names ≡ global_names n → path_of p.cards.names p.cards.parts.items way ≡ path_in n within
-    → names_nets p way ks ≡ map (net_in n within) (map (text p.cards.names) ks)
-pins_by_numbers n p way within [] g e = refl
-pins_by_numbers n p way within (k ∷ ks) g e =
-    let rest = pins_by_numbers n p way within ks g e in
-    λ i. net_of (g i) (e i) (text p.cards.names k) ∷ rest i
-
--- the nets of a device's card
-pub card_nets : (n : Netlist) (p : Plan) (way : Way) (within : Instance) (card : DeviceCard) (number : ℕ) (plan : DevicePlan) → IsPlan n p → IsDevicePlan p.cards card number plan
-    → path_of p.cards.names p.cards.parts.items way ≡ path_in n within → names_nets p way plan.nets.items ≡ pins_of n within card
-card_nets n p way within card number plan is d e = pins_by_numbers n p way within plan.nets.items is.globals e ∙ ap (map (net_in n within)) d.kept.nets
-
 -- as many nets are known then as rows
-pub known_length : (n : Netlist) (p : Plan) (rows : List InstanceRow) (old new : List NetRow) (within : Instance) (card : DeviceCard) (number : ℕ) (plan : DevicePlan) (way : Way) (pins : List NetId) → IsPlan n p → IsDevicePlan p.cards card number plan
-    → path_of p.cards.names p.cards.parts.items way ≡ path_in n within → NumbersPins p rows old new (names_nets p way plan.nets.items) pins → length (nets_once (known_nets p.cards rows old) (pins_of n within card)) ≡ length new
-known_length n p rows old new within card number plan way pins is d e w =
-    ap (λ ns. length (nets_once (known_nets p.cards rows old) ns)) (sym (card_nets n p way within card number plan is d e)) ∙ ap length (sym w.known) ∙ length-map new (net_at p.cards.names p.cards.parts.items (ways_of rows))
+pub known_length : (n : Netlist) (p : Plan) (rows : List InstanceRow) (old new : List NetRow) (nets wanted : List Net) (pins : List NetId) → nets ≡ wanted
+    → NumbersPins p rows old new nets pins → length (nets_once (known_nets p.cards rows old) wanted) ≡ length new
+known_length n p rows old new nets wanted pins e w =
+    ap (λ ns. length (nets_once (known_nets p.cards rows old) ns)) (sym e) ∙ ap length (sym w.known) ∙ length-map new (net_at p.cards.names p.cards.parts.items (ways_of rows))
 
 module _ (n : Netlist) (p : Plan) (rows : List InstanceRow) (old new : Made) (within : Instance) (card : DeviceCard) (number : ℕ) (plan : DevicePlan) (row : DeviceRow)
-    (is : IsPlan n p) (d : IsDevicePlan p.cards card number plan) (formed : length card.nets ≡ net_count card.letter)
+    (nets : List Net) (wanted : nets ≡ pins_of n within card) (d : IsDevicePlan p.cards card number plan) (formed : length card.nets ≡ net_count card.letter)
     (sound : IsSound (tables_of n p rows old)) (inside : row.instance ≤ length rows)
     (path : path_of p.cards.names p.cards.parts.items (way_at (ways_of rows) row.instance) ≡ path_in n within)
-    (pins : NumbersPins p rows old.nets new.nets (names_nets p (way_at (ways_of rows) row.instance) plan.nets.items) row.pins.items)
+    (pins : NumbersPins p rows old.nets new.nets nets row.pins.items)
     (at : row.card ≡ number) (takes : TakesGroup n within card.pairs plan.model old.groups.items new.groups.items row.group)
     (devices : new.devices.items ≡ old.devices.items ++ row ∷ [])
     (few : length old.devices.items < 500000) (fewer : length old.groups.items ≤ length old.devices.items) (room : length new.nets ≤ 1000000) where
   abbrev ways : List Way
   ways = ways_of rows
 
-  wanted : names_nets p (way_at ways row.instance) plan.nets.items ≡ pins_of n within card
-  wanted = card_nets n p (way_at ways row.instance) within card number plan is d path
 
   of_card : part_at p.cards.devices.items row.card ≡ plan.part
   of_card = ap (part_at p.cards.devices.items) at ∙ d.part
@@ -87,7 +73,7 @@ module _ (n : Netlist) (p : Plan) (rows : List InstanceRow) (old new : Made) (wi
 
   known_more : length old.nets ≤ length new.nets
   known_more =
-      let w = once_more (known_nets p.cards rows old.nets) (names_nets p (way_at ways row.instance) plan.nets.items) in
+      let w = once_more (known_nets p.cards rows old.nets) nets in
       omega (arith, ap length (pins.known ∙ w.1), length-append (known_nets p.cards rows old.nets) w.0, length-map old.nets (net_at p.cards.names p.cards.parts.items ways), length-map new.nets (net_at p.cards.names p.cards.parts.items ways))
 
   groups_more : length new.groups.items ≡ length old.groups.items + length takes.more

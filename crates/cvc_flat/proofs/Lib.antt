@@ -15,11 +15,13 @@ pub mod Growing
 pub mod Stack
 pub mod Once
 pub mod Following
+pub mod Pinned
 pub mod Planned
 pub mod Numbered
 pub mod Added
 pub mod Marks
 pub mod Entered
+pub mod Joined
 pub mod Causes
 pub mod Openings
 pub mod Givens
@@ -35,6 +37,7 @@ pub mod Seeing
 pub mod Listed
 pub mod Whole
 pub mod States
+pub mod Hosting
 pub mod Seen
 pub mod Answering
 pub mod Sharing

@@ -1,12 +1,12 @@
 -- What holds of each item of a list, and names by their places.
-use Rattle.std.proofs.Common.{◌≡◌, ℕ, zero, suc, ◌<◌, ◌≤◌, ◌||◌, Bool, true, false, cond, List, [], ◌∷◌, ◌++◌, length, map, get_or, take, Some, None, refl, sym, ap, subst, ◌∙◌, length-append, arith}
+use Rattle.std.proofs.Common.{◌≡◌, ℕ, zero, suc, ◌<◌, ◌≤◌, ◌&&◌, ◌||◌, Bool, true, false, cond, List, [], ◌∷◌, ◌++◌, length, map, get_or, take, Some, None, refl, sym, ap, subst, ◌∙◌, length-append, arith}
 use Rattle.std.specs.Prelude.{All, Vec, nat_lt, position, if◌then◌else◌}
 use Rattle.std.specs.List.{list_any, position_or_len}
 use Rattle.std.specs.Str.{bytes_eq}
 use Rattle.std.specs.Cmp.Lexicographic.{bytes_decides}
 use Rattle.std.specs.declared.alloc.Global.{Global}
 use Rattle.std.proofs.Math.Seq.{get_or-append_seam}
-use Rattle.std.proofs.lemmas.Bool.{lt-ltb}
+use Rattle.std.proofs.lemmas.Bool.{false≢true, lt-ltb}
 use Rattle.std.proofs.lemmas.List.Sums.{fails_before_first, passes_at_first, position_or_len_is}
 use Rattle.std.proofs.lemmas.Bool.Decides.{nat_tests}
 use Rattle.std.proofs.lemmas.List.{get_or-take, get_or_append_left, length-map, length-take-le, map-append}
@@ -37,6 +37,24 @@ all_last {X} P xs ys x e h =
 pub all_front : {X : Type 0} (P : X → Type 0) (xs ys : List X) (x : X) → xs ≡ ys ++ x ∷ [] → All P xs → All P ys
 all_front {X} P xs ys x e h = λ k d b.
     subst P (ap (λ (l : List X). get_or l k d) e ∙ get_or_append_left ys (x ∷ []) d k b) (h k d (omega (arith, ap length e, length-append ys (x ∷ []))))
+
+-- ## Tests of two
+
+pub or_first : (a b : Bool) → (a || b) ≡ false → a ≡ false
+or_first true b e = e
+or_first false b e = refl
+
+pub or_second : (a b : Bool) → (a || b) ≡ false → b ≡ false
+or_second true b e = absurd (false≢true (sym e))
+or_second false b e = e
+
+pub and_first : (a b : Bool) → (a && b) ≡ true → a ≡ true
+and_first true b e = refl
+and_first false b e = e
+
+pub and_second : (a b : Bool) → (a && b) ≡ true → b ≡ true
+and_second true b e = e
+and_second false b e = absurd (false≢true e)
 
 -- ## Places
 

@@ -54,7 +54,7 @@ mark_here n p rows (l ∷ ls) m [] h = absurd h
 mark_here n p rows (l ∷ ls) m (a ∷ above) h = h.0
 
 abbrev pub stepped : Mark → Mark
-stepped m = record { instance = m.instance; cell = m.cell; plan = m.plan; next = m.next + 1 }
+stepped m = record { instance = m.instance; cell = m.cell; plan = m.plan; first = m.first; next = m.next + 1 }
 
 mark_steps : (n : Netlist) (p : Plan) (rows : List InstanceRow) (ls : List Level) (m : Mark) → IsMark n p rows ls m → IsMark n p rows ls (stepped m)
 mark_steps n p rows ls m h = record { inside = h.inside; path = h.path; cell = h.cell; known = h.known; plan = h.plan }

@@ -13,6 +13,7 @@ use Rattle.std.proofs.lemmas.List.Folds.{find_at}
 use Rattle.std.proofs.lemmas.Option.{slice_get-get_or, slice_get_past}
 use Rattle.std.proofs.lemmas.List.{append-nil, get_or_append_left, map-append, take_more}
 use Rattle.std.proofs.lemmas.List.Elements.{All-append}
+use Rattle.cvc_base.specs.declared.param.Pair.{Pair}
 use Rattle.cvc_card.specs.Card.{has_twice}
 use Rattle.cvc_card.specs.declared.card.DeviceCard.{DeviceCard}
 use Rattle.cvc_card.specs.declared.card.InstCard.{InstCard}
@@ -28,30 +29,26 @@ use Rattle.cvc_flat.specs.declared.cards.CellPlan.{CellPlan}
 use Rattle.cvc_flat.specs.declared.cards.ItemPlan.{ItemPlan}
 use Rattle.cvc_flat.specs.declared.cards.ItemPlan.TheVariants as plans
 use Rattle.cvc_flat.specs.declared.cards.OpeningPlan.{OpeningPlan}
+use Rattle.cvc_flat.specs.declared.pins.Pin.{Pin}
+use Rattle.cvc_flat.specs.declared.pins.PortPlan.{PortPlan}
 use Rattle.cvc_flat.specs.declared.plan.DevicePlan.{DevicePlan}
 use Rattle.cvc_flat.specs.declared.rows.DevicePart.{DevicePart}
 use Rattle.cvc_flat.specs.declared.rows.InstancePart.{InstancePart}
 use Rattle.cvc_flat.specs.Flat.{Opening, opening_at}
-use Rattle.cvc_flat.specs.Instances.{no_cell}
+use Rattle.cvc_flat.specs.Instances.{cell_for, no_cell}
 use Rattle.cvc_flat.specs.Names.{AreApart, Grows, items_of, place_of, with_name}
-use Rattle.cvc_flat.specs.Nets.{Link}
+use Rattle.cvc_flat.specs.Nets.{Link, global_names, link_of as link_in}
+use Rattle.cvc_flat.specs.Pins.{ArePins, ArePortPlans, IsPin, IsPortPlan, net_given}
 use Rattle.cvc_flat.specs.Planning.{AreCellPlans, AreSoundCards, CardsGrow, IsCellPlan, IsDevicePlan, IsInstPlan, IsItemPlan, opening_of}
 use Rattle.cvc_flat.specs.Plans.{IsPlanOf}
 use Rattle.cvc_flat.specs.Tables.{IsPart, link_at, link_of, no_part, part_at}
-use Rattle.cvc_flat.proofs.Growing.{grows_connections, grows_length, grows_none, grows_numbers, grows_pairs, grows_text, grows_texts, grows_twice, map_alike}
-use Rattle.cvc_flat.proofs.Lists.{all_one, none_first, place_map}
+use Rattle.cvc_flat.proofs.Growing.{grows_connections, grows_length, grows_none, grows_pairs, grows_text, grows_twice, map_alike}
+use Rattle.cvc_flat.proofs.Lists.{all_one, none_first, or_first, or_second, place_map}
+use Rattle.cvc_flat.proofs.Pinned.{pin_stays, plan_stays as port_plan_stays}
 use Rattle.cvc_flat.proofs.Resolving.{place_among}
 use Rattle.cvc_flat.proofs.Writing.{link_is}
 
 -- ## Names that stand once
-
-or_first : (a b : Bool) → (a || b) ≡ false → a ≡ false
-or_first true b e = e
-or_first false b e = refl
-
-or_second : (a b : Bool) → (a || b) ≡ false → b ≡ false
-or_second true b e = absurd (false≢true (sym e))
-or_second false b e = e
 
 not_before : (xs : List (List ℕ)) (i : ℕ) → has_twice xs ≡ false → i < length xs → is_among (take i xs) (get_or xs i []) ≡ false
 not_before [] i t h = absurd (omega arith)
@@ -125,8 +122,6 @@ plan_stays a b card plan g p = record {
   line = p.line;
   own = omega (arith, p.own, grows_length a b g);
   name = grows_text a b plan.part.name g p.own ∙ p.name;
-  inside = grows_numbers a b plan.nets.items g p.inside;
-  nets = grows_texts a b plan.nets.items g p.inside ∙ p.nets;
   known = omega (arith, p.known, grows_length a b g);
   model = grows_text a b plan.model g p.known ∙ p.model;
 }
@@ -144,7 +139,7 @@ element [] k h = absurd (omega arith)
 element (x ∷ xs) zero h = (x, refl)
 element (x ∷ xs) (suc k) h = element xs k (omega arith)
 
-part_stays : (a b : List (List ℕ)) (part : InstancePart) → Grows a b → IsPart a part → link_of b part ≡ link_of a part
+pub part_stays : (a b : List (List ℕ)) (part : InstancePart) → Grows a b → IsPart a part → link_of b part ≡ link_of a part
 part_stays a b part g p = let n = grows_text a b part.name g p.0 in let c = grows_pairs a b part.connections.items g p.1 in λ i. record { name = n i; connections = c i }
 
 pub sound_part_more : (a b : List (List ℕ)) (part : InstancePart) → Grows a b → IsPart a part → IsPart b part
@@ -167,18 +162,28 @@ inst_stays n a b card number cell g s p = record {
   used = p.used;
 }
 
-pub item_stays : (n : Netlist) (a b : Cards) → CardsGrow a b → AreSoundCards a → (item : Item) (plan : ItemPlan) → IsItemPlan n a item plan → IsItemPlan n b item plan
-item_stays n a b g s (items.Device card) (plans.Device number plan) p = device_stays a b card number plan g p
-item_stays n a b g s (items.Device card) (plans.Inst number cell) p = absurd p
-item_stays n a b g s (items.Inst card) (plans.Device number plan) p = absurd p
-item_stays n a b g s (items.Inst card) (plans.Inst number cell) p = inst_stays n a b card number cell g s p
+pub pins_stay : (a b globals ports wanted : List (List ℕ)) (ps : List Pin) → Grows a b → ArePins a globals ports wanted ps → ArePins b globals ports wanted ps
+pins_stay a b globals ports wanted ps g z = zip_map (IsPin a globals ports) (IsPin b globals ports) wanted ps (λ name pin h. pin_stays a b globals ports name pin g h) z
 
-pub items_stay : (n : Netlist) (a b : Cards) (its : List Item) (ps : List ItemPlan) → CardsGrow a b → AreSoundCards a → AllZip (IsItemPlan n a) its ps → AllZip (IsItemPlan n b) its ps
-items_stay n a b its ps g s z = zip_map (IsItemPlan n a) (IsItemPlan n b) its ps (item_stays n a b g s) z
+pub port_plans_stay : (a b globals ports : List (List ℕ)) (pairs : List Pair) (used : List (List ℕ)) (qs : List PortPlan) → Grows a b → ArePortPlans a globals ports pairs used qs → ArePortPlans b globals ports pairs used qs
+port_plans_stay a b globals ports pairs used qs g z =
+    zip_map (λ port q. IsPortPlan a globals ports (net_given pairs port) port q) (λ port q. IsPortPlan b globals ports (net_given pairs port) port q) used qs
+    (λ port q h. port_plan_stays a b globals ports (net_given pairs port) port q g h) z
+
+pub item_stays : (n : Netlist) (a b : Cards) (ports : List (List ℕ)) → CardsGrow a b → AreSoundCards a → (item : Item) (plan : ItemPlan) → IsItemPlan n a ports item plan → IsItemPlan n b ports item plan
+item_stays n a b ports g s (items.Device card) (plans.Device number plan) p =
+    (device_stays a b card number plan g p.0, pins_stay a.names b.names (global_names n) ports card.nets plan.pins.items g.names p.1)
+item_stays n a b ports g s (items.Device card) (plans.Inst number plan) p = absurd p
+item_stays n a b ports g s (items.Inst card) (plans.Device number plan) p = absurd p
+item_stays n a b ports g s (items.Inst card) (plans.Inst number plan) p =
+    (inst_stays n a b card number plan.cell g s p.0, port_plans_stay a.names b.names (global_names n) ports (link_in n card).connections (cell_for n card.cell).ports plan.ports.items g.names p.1)
+
+pub items_stay : (n : Netlist) (a b : Cards) (ports : List (List ℕ)) (its : List Item) (ps : List ItemPlan) → CardsGrow a b → AreSoundCards a → AllZip (IsItemPlan n a ports) its ps → AllZip (IsItemPlan n b ports) its ps
+items_stay n a b ports its ps g s z = zip_map (IsItemPlan n a ports) (IsItemPlan n b ports) its ps (item_stays n a b ports g s) z
 
 pub cells_stay : (n : Netlist) (a b : Cards) (cells : List Cell) (ps : List CellPlan) → CardsGrow a b → AreSoundCards a → AreCellPlans n a cells ps → AreCellPlans n b cells ps
 cells_stay n a b cells ps g s z =
-    zip_map (λ (c : Cell) (p : CellPlan). IsCellPlan n a c.items p) (λ (c : Cell) (p : CellPlan). IsCellPlan n b c.items p) cells ps (λ c p w. items_stay n a b c.items p.items.items g s w) z
+    zip_map (IsCellPlan n a) (IsCellPlan n b) cells ps (λ c p w. items_stay n a b c.ports c.items p.items.items g s w) z
 
 -- ## One more card
 
@@ -275,10 +280,10 @@ openings_within a b os more o g h own is =
 pub map_more : {A B : Type 0} (f : A → B) (xs : List A) (i : ℕ) (x : A) → i < length xs → x ≡ get_or xs i x → map f (take i xs) ++ f x ∷ [] ≡ map f (take (i + 1) xs)
 map_more f xs i x h e = ap (λ y. map f (take i xs) ++ f y ∷ []) e ∙ sym (map-append f (take i xs) (get_or xs i x ∷ [])) ∙ ap (map f) (sym (take_more xs i x h))
 
-pub device_item : {E : Type 0} (n : Netlist) (k : Cards) (item : Item) (card : DeviceCard) (result : Result ItemPlan E) → item ≡ items.Device card → IfOk result (λ plan. (m : Netlist) → IsItemPlan m k (items.Device card) plan)
-    → IfOk result (IsItemPlan n k item)
-device_item n k item card (Ok plan) e h = subst (λ i. IsItemPlan n k i plan) (sym e) (h n)
-device_item n k item card (Err x) e h = tt
+pub device_item : {E : Type 0} (n : Netlist) (k : Cards) (names : List (List ℕ)) (g : ℕ) (ports : List (List ℕ)) (item : Item) (card : DeviceCard) (result : Result ItemPlan E) → item ≡ items.Device card → take g names ≡ global_names n
+    → IfOk result (λ plan. (m : Netlist) → take g names ≡ global_names m → IsItemPlan m k ports (items.Device card) plan) → IfOk result (IsItemPlan n k ports item)
+device_item n k names g ports item card (Ok plan) e is h = subst (λ i. IsItemPlan n k ports i plan) (sym e) (h n is)
+device_item n k names g ports item card (Err x) e is h = tt
 
 named_none : (cells : List Cell) (name : List ℕ) → is_among (map name_of_cell cells) name ≡ true → cell_named cells name ≡ None → ⊥
 named_none [] name a e = absurd (false≢true a)

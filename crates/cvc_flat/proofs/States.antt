@@ -1,6 +1,6 @@
 -- The states of a walk: what is known at each visit, and what one more visit makes of it.
 use Rattle.std.proofs.Common.{◌≡◌, ℕ, suc, take, ◌-◌, ◌+◌, ◌<◌, ◌≤◌, List, [], ◌∷◌, ◌++◌, length, map, get_or, drop, refl, sym, ap, subst, ◌∙◌, length-append, arith}
-use Rattle.std.specs.Prelude.{All, Some, None, Result, Err, reverse}
+use Rattle.std.specs.Prelude.{All, Some, None, Err, reverse}
 use Rattle.std.specs.List.{AllZip}
 use Rattle.std.specs.Option.{option_map}
 use Rattle.std.proofs.lemmas.List.{append-nil, get_or_append_left, length-drop, length-map, length-reverse, reverse-append, take_all, take_more}
@@ -350,22 +350,22 @@ module _ (n : Netlist) (p : Plan) (rows : List InstanceRow) (made : Made) (mark 
 module _ (n : Netlist) (p : Plan) (rows : List InstanceRow) (made : Made) (levels : List Level) (mark : Mark) (above : List Mark) (s : IsState n p rows made levels mark above) (plan : IsPlan n p) where
   pub plan_inside : mark.plan < length p.cells.items
   plan_inside =
-      omega (arith, zip_length (λ (c : Cell) (k : CellPlan). IsCellPlan n p.cards c.items k) (all_cells n) p.cells.items plan.cells, length-append n.cells (n.main ∷ []), (here n p rows made levels mark above s).known)
+      omega (arith, zip_length (IsCellPlan n p.cards) (all_cells n) p.cells.items plan.cells, length-append n.cells (n.main ∷ []), (here n p rows made levels mark above s).known)
 
-  pub cell_planned : (k : CellPlan) → k ≡ get_or p.cells.items mark.plan k → AllZip (IsItemPlan n p.cards) mark.cell.now.items k.items.items
+  pub cell_planned : (k : CellPlan) → k ≡ get_or p.cells.items mark.plan k → AllZip (IsItemPlan n p.cards mark.cell.now.ports) mark.cell.now.items k.items.items
   cell_planned k e =
       let m = here n p rows made levels mark above s in
       let inside : mark.plan < length (all_cells n) = omega (arith, length-append n.cells (n.main ∷ []), m.known) in
-      subst (λ (c : Cell). IsCellPlan n p.cards c.items k) m.plan
-      (subst (λ (x : CellPlan). IsCellPlan n p.cards (get_or (all_cells n) mark.plan no_cell).items x) (sym e)
-      (zip_at (λ (c : Cell) (x : CellPlan). IsCellPlan n p.cards c.items x) (all_cells n) p.cells.items mark.plan no_cell k plan.cells inside))
+      subst (λ (c : Cell). IsCellPlan n p.cards c k) m.plan
+      (subst (λ (x : CellPlan). IsCellPlan n p.cards (get_or (all_cells n) mark.plan no_cell) x) (sym e)
+      (zip_at (IsCellPlan n p.cards) (all_cells n) p.cells.items mark.plan no_cell k plan.cells inside))
 
   pub items_planned : (k : CellPlan) → k ≡ get_or p.cells.items mark.plan k → length k.items.items ≡ length mark.cell.now.items
-  items_planned k e = zip_length (IsItemPlan n p.cards) mark.cell.now.items k.items.items (cell_planned k e)
+  items_planned k e = zip_length (IsItemPlan n p.cards mark.cell.now.ports) mark.cell.now.items k.items.items (cell_planned k e)
 
-  pub item_planned : (k : CellPlan) (item : Item) (i : ItemPlan) → k ≡ get_or p.cells.items mark.plan k → mark.next < length mark.cell.now.items → item ≡ get_or mark.cell.now.items mark.next item → i ≡ get_or k.items.items mark.next i → IsItemPlan n p.cards item i
+  pub item_planned : (k : CellPlan) (item : Item) (i : ItemPlan) → k ≡ get_or p.cells.items mark.plan k → mark.next < length mark.cell.now.items → item ≡ get_or mark.cell.now.items mark.next item → i ≡ get_or k.items.items mark.next i → IsItemPlan n p.cards mark.cell.now.ports item i
   item_planned k item i e inside a b =
-      subst (λ x. IsItemPlan n p.cards x i) (sym a) (subst (IsItemPlan n p.cards (get_or mark.cell.now.items mark.next item)) (sym b) (zip_at (IsItemPlan n p.cards) mark.cell.now.items k.items.items mark.next item i (cell_planned k e) inside))
+      subst (λ x. IsItemPlan n p.cards mark.cell.now.ports x i) (sym a) (subst (IsItemPlan n p.cards mark.cell.now.ports (get_or mark.cell.now.items mark.next item)) (sym b) (zip_at (IsItemPlan n p.cards mark.cell.now.ports) mark.cell.now.items k.items.items mark.next item i (cell_planned k e) inside))
 
   pub item_formed : IsWellFormed n → (item : Item) → mark.next < length mark.cell.now.items → item ≡ get_or mark.cell.now.items mark.next item → IsFormedItem n.cells item
   item_formed well item inside a =
@@ -379,7 +379,7 @@ pub no_items : {A : Type 0} (xs : List A) → length xs ≡ 0 → xs ≡ []
 no_items [] e = refl
 no_items (x ∷ xs) e = absurd (omega arith)
 
-last_split : {A : Type 0} (xs : List A) → 0 < length xs → (x : A) × (xs ≡ take (length xs - 1) xs ++ x ∷ [])
+pub last_split : {A : Type 0} (xs : List A) → 0 < length xs → (x : A) × (xs ≡ take (length xs - 1) xs ++ x ∷ [])
 last_split xs h =
     let i : ℕ = length xs - 1 in
     let below : i < length xs = omega arith in
@@ -406,29 +406,8 @@ state_done n p rows made mark levels above s e h = state_ends n p rows made mark
 pub same_item : (its : List Item) (k : ℕ) (item is : Item) → item ≡ get_or its k item → item ≡ is → get_or its k is ≡ is
 same_item its k item is e q = subst (λ (x : Item). get_or its k x ≡ x) q (sym e)
 
-pub cause_same : (A : Type 0) (n : Netlist) (p : Plan) (lent rows : List InstanceRow) (made : Made) (levels lent_levels : List Level) (d : DeviceCard) (result : Result A Refusal) → lent ≡ rows → lent_levels ≡ levels
-    → Refuses {A = A} (option_map (fault_at d.line) (device_cause_in limits n (length made.devices.items) (known_nets p.cards lent made.nets) (instance_of lent_levels) d)) result
-    → Refuses {A = A} (option_map (fault_at d.line) (device_cause_in limits n (length made.devices.items) (known_nets p.cards rows made.nets) (instance_of levels) d)) result
-cause_same A n p lent rows made levels lent_levels d result a b h =
-    subst (λ l. Refuses {A = A} (option_map (fault_at d.line) (device_cause_in limits n (length made.devices.items) (known_nets p.cards rows made.nets) (instance_of l) d)) result) b
-    (subst (λ r. Refuses {A = A} (option_map (fault_at d.line) (device_cause_in limits n (length made.devices.items) (known_nets p.cards r made.nets) (instance_of lent_levels) d)) result) a h)
-
-pub added_same : (n : Netlist) (p : Plan) (lent rows : List InstanceRow) (made new : Made) (levels lent_levels : List Level) (d : DeviceCard) → lent ≡ rows → lent_levels ≡ levels → AddsDevice n p lent made new (instance_of lent_levels) d → AddsDevice n p rows made new (instance_of levels) d
-added_same n p lent rows made new levels lent_levels d a b h = subst (λ l. AddsDevice n p rows made new (instance_of l) d) b (subst (λ r. AddsDevice n p r made new (instance_of lent_levels) d) a h)
-
 -- the state in an instance that is entered, by its parts
 pub entered_same : (n : Netlist) (p : Plan) (rows new_rows : List InstanceRow) (made : Made) (levels new_levels : List Level) (e : Mark) (above new_above : List Mark) (r : InstanceRow) (l : Level) (a : Mark) → new_rows ≡ rows ++ r ∷ [] → new_levels ≡ levels ++ l ∷ [] → new_above ≡ above ++ a ∷ []
     → IsState n p (rows ++ r ∷ []) made (levels ++ l ∷ []) e (above ++ a ∷ []) → IsState n p new_rows made new_levels e new_above
 entered_same n p rows new_rows made levels new_levels e above new_above r l a x y z s =
     subst (λ k. IsState n p k made new_levels e new_above) (sym x) (subst (λ k. IsState n p (rows ++ r ∷ []) made k e new_above) (sym y) (subst (IsState n p (rows ++ r ∷ []) made (levels ++ l ∷ []) e) (sym z) s))
-
-pub state_entered : (n : Netlist) (p : Plan) (rows : List InstanceRow) (made : Made) (levels : List Level) (mark : Mark) (above : List Mark) (s : IsState n p rows made levels mark above) (inside : mark.next < length mark.cell.now.items)
-    (well : IsWellFormed n) (x : InstCard) (number cell : ℕ) (l : Level) (r : InstanceRow) (e : Mark) (new_rows : List InstanceRow) (new_levels : List Level) (new_above : List Mark)
-    → new_levels ≡ levels ++ l ∷ [] → new_rows ≡ rows ++ r ∷ [] → new_above ≡ above ++ stepped mark ∷ []
-    → get_or mark.cell.now.items mark.next (items.Inst x) ≡ items.Inst x → IsInstPlan n p.cards x number cell
-    → option_map (fault_at x.line) (instance_cause_in limits (length rows) (length levels + 1)) ≡ None → length rows < 1000000 → length levels < 64
-    → l.card.now ≡ x → l.cell.now ≡ get_or (all_cells n) cell no_cell → r.parent ≡ mark.instance → r.card ≡ number → e.instance ≡ length rows + 1 → e.cell.now ≡ l.cell.now → e.plan ≡ cell → e.next ≡ 0
-    → IsState n p new_rows made new_levels e new_above
-state_entered n p rows made levels mark above s inside well x number cell l r e new_rows new_levels new_above a b c is plan none room short card known parent listed entered of_cell planned first =
-    entered_same n p rows new_rows made levels new_levels e above new_above r l (stepped mark) b a c
-    (state_instance n p rows made levels mark above s inside well x number cell l r e is plan none room short card known parent listed entered of_cell planned first)

@@ -13,10 +13,12 @@ pub mod Tables
 pub mod Hashes
 pub mod Finder
 pub mod Resolving
+pub mod Pins
 pub mod Plans
 pub mod Levels
 pub mod Planning
 pub mod Making
+pub mod Joining
 pub mod PairIndexes
 pub mod PairLists
 pub mod Seen

@@ -1,6 +1,6 @@
 -- A flat list while it is made. The tables are those of a plan with the rows so far; the nets and the devices of the visits that are done stand in them.
 -- What is left of the walk is read from the marks: where it stands in the instance that it is in, and in each one above.
-use Rattle.std.specs.Prelude.{◌≡◌, ℕ, ◌-◌, ◌<◌, ◌≤◌, List, [], ◌∷◌, ◌++◌, All, Option, Some, nat_le, nat_lt, drop, length, map, take, if◌then◌else◌, slice_index_or}
+use Rattle.std.specs.Prelude.{◌≡◌, ℕ, ◌-◌, ◌<◌, ◌≤◌, List, [], ◌∷◌, ◌++◌, All, Option, Some, nat_le, nat_lt, drop, length, map, if◌then◌else◌, slice_index_or}
 use Rattle.cvc_base.specs.declared.cause.Cause.{Cause}
 use Rattle.cvc_base.specs.declared.cause.Cause.TheVariants.{TooDeep, TooManyInstances, TooManyDevices, TooManyNets, ParamLoop}
 use Rattle.cvc_base.specs.declared.ids.NetId.{NetId}
@@ -20,10 +20,11 @@ use Rattle.cvc_flat.specs.Flat.{Limits, Opening, devices_behind, flat_device, in
 use Rattle.cvc_flat.specs.Instances.{Instance, cell_at, no_cell}
 use Rattle.cvc_flat.specs.Left.{Frame}
 use Rattle.cvc_flat.specs.Levels.{card_of}
-use Rattle.cvc_flat.specs.Nets.{Net, net_of, path_of as path_in}
+use Rattle.cvc_flat.specs.Names.{AreApart}
+use Rattle.cvc_flat.specs.Nets.{Net, path_of as path_in}
 use Rattle.cvc_flat.specs.Places.{has_loop}
 use Rattle.cvc_flat.specs.Planning.{all_cells}
-use Rattle.cvc_flat.specs.Tables.{IsSound, Tables, Way, device_at, net_at, path_of, text, way_at, ways_of}
+use Rattle.cvc_flat.specs.Tables.{AreWaysApart, IsSound, Tables, device_at, net_at, path_of, way_at, ways_of}
 use Rattle.cvc_flat.specs.Walk.{Visit}
 
 -- ## Nets
@@ -35,14 +36,19 @@ known_nets k rows nets = map (net_at k.names k.parts.items (ways_of rows)) nets
 abbrev pub net_of_opening : Opening → Net
 net_of_opening o = o.net
 
--- the nets of these names, by their numbers, on a way
-abbrev pub names_nets : Plan → Way → List ℕ → List Net
-names_nets p way ks = map (λ k. net_of (take p.globals p.cards.names) (path_of p.cards.names p.cards.parts.items way) (text p.cards.names k)) ks
+abbrev pub AreNetsWithin : Plan → List InstanceRow → List NetRow → Type 0
+AreNetsWithin p rows nets = All (λ (r : NetRow). (r.instance ≤ length rows) × (r.name < length p.cards.names)) nets
+
+-- rows of nets in tables of which no two names and no two ways are the same
+pub record AreRows (p : Plan) (rows : List InstanceRow) (nets : List NetRow) : Type 0 where
+  pub apart : AreApart p.cards.names
+  pub ways : AreWaysApart p.cards.names p.cards.parts.items rows
+  pub within : AreNetsWithin p rows nets
 
 -- the pins have the numbers of these nets, of which those that are new stand last
 pub record NumbersPins (p : Plan) (rows : List InstanceRow) (old new : List NetRow) (nets : List Net) (pins : List NetId) : Type 0 where
   pub known : known_nets p.cards rows new ≡ nets_once (known_nets p.cards rows old) nets
-  pub within : All (λ (r : NetRow). (r.instance ≤ length rows) × (r.name < length p.cards.names)) new
+  pub within : AreNetsWithin p rows new
   pub numbers : pins ≡ map (net_id (known_nets p.cards rows new)) nets
   pub inside : All (λ (n : NetId). n.0 < length new) pins
 

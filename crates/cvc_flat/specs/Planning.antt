@@ -15,6 +15,7 @@ use Rattle.cvc_flat.specs.declared.cards.ItemPlan.{ItemPlan}
 use Rattle.cvc_flat.specs.declared.cards.ItemPlan.TheVariants as plans
 use Rattle.cvc_flat.specs.declared.cards.OpeningPlan.{OpeningPlan}
 use Rattle.cvc_flat.specs.declared.cards.Plan.{Plan}
+use Rattle.cvc_flat.specs.declared.pins.PortPlan.{PortPlan}
 use Rattle.cvc_flat.specs.declared.plan.DevicePlan.{DevicePlan}
 use Rattle.cvc_flat.specs.declared.rows.DevicePart.{DevicePart}
 use Rattle.cvc_flat.specs.declared.rows.InstancePart.{InstancePart}
@@ -22,6 +23,7 @@ use Rattle.cvc_flat.specs.Flat.{Opening, opening_at}
 use Rattle.cvc_flat.specs.Instances.{cell_at, cell_for, no_cell}
 use Rattle.cvc_flat.specs.Names.{AreApart, Grows}
 use Rattle.cvc_flat.specs.Nets.{global_names, link_of}
+use Rattle.cvc_flat.specs.Pins.{ArePins, ArePortPlans}
 use Rattle.cvc_flat.specs.Plans.{IsPlanOf}
 use Rattle.cvc_flat.specs.Tables.{IsPart, link_at, part_at, text}
 
@@ -54,17 +56,26 @@ pub record IsInstPlan (n : Netlist) (k : Cards) (card : InstCard) (number cell :
   pub known : cell < length n.cells
   pub used : slice_index_or n.cells cell no_cell ≡ cell_for n card.cell
 
-abbrev pub IsItemPlan : Netlist → Cards → Item → ItemPlan → Type 0
-IsItemPlan n k (items.Device card) (plans.Device number plan) = IsDevicePlan k card number plan
-IsItemPlan n k (items.Device card) (plans.Inst number cell) = ⊥
-IsItemPlan n k (items.Inst card) (plans.Device number plan) = ⊥
-IsItemPlan n k (items.Inst card) (plans.Inst number cell) = IsInstPlan n k card number cell
+-- the pins of a device in a cell of these ports
+abbrev pub ArePinsOf : Netlist → Cards → List (List ℕ) → DeviceCard → DevicePlan → Type 0
+ArePinsOf n k ports card plan = ArePins k.names (global_names n) ports card.nets plan.pins.items
 
-abbrev pub IsCellPlan : Netlist → Cards → List Item → CellPlan → Type 0
-IsCellPlan n k its plan = AllZip (IsItemPlan n k) its plan.items.items
+-- the plans of the ports of the cell that an instance in a cell of these ports names
+abbrev pub ArePortsOf : Netlist → Cards → List (List ℕ) → InstCard → List PortPlan → Type 0
+ArePortsOf n k ports card plans = ArePortPlans k.names (global_names n) ports (link_of n card).connections (cell_for n card.cell).ports plans
+
+-- what is kept of an item in a cell of these ports
+abbrev pub IsItemPlan : Netlist → Cards → List (List ℕ) → Item → ItemPlan → Type 0
+IsItemPlan n k ports (items.Device card) (plans.Device number plan) = IsDevicePlan k card number plan × ArePinsOf n k ports card plan
+IsItemPlan n k ports (items.Device card) (plans.Inst number plan) = ⊥
+IsItemPlan n k ports (items.Inst card) (plans.Device number plan) = ⊥
+IsItemPlan n k ports (items.Inst card) (plans.Inst number plan) = IsInstPlan n k card number plan.cell × ArePortsOf n k ports card plan.ports.items
+
+abbrev pub IsCellPlan : Netlist → Cards → Cell → CellPlan → Type 0
+IsCellPlan n k c plan = AllZip (IsItemPlan n k c.ports) c.items plan.items.items
 
 abbrev pub AreCellPlans : Netlist → Cards → List Cell → List CellPlan → Type 0
-AreCellPlans n k cells plans = AllZip (λ (c : Cell) (p : CellPlan). IsCellPlan n k c.items p) cells plans
+AreCellPlans n k cells plans = AllZip (IsCellPlan n k) cells plans
 
 -- ## Openings
 

@@ -1,5 +1,5 @@
 -- What is kept of cards: their names by numbers.
-use Rattle.std.specs.Prelude.{◌≡◌, ℕ, ◌<◌, List, All, length, map}
+use Rattle.std.specs.Prelude.{◌≡◌, ℕ, ◌<◌, List, length}
 use Rattle.cvc_card.specs.declared.card.DeviceCard.{DeviceCard}
 use Rattle.cvc_flat.specs.declared.plan.DevicePlan.{DevicePlan}
 use Rattle.cvc_flat.specs.Tables.{text}
@@ -9,7 +9,5 @@ pub record IsPlanOf (names : List (List ℕ)) (card : DeviceCard) (plan : Device
   pub line : plan.part.line ≡ card.line
   pub own : plan.part.name < length names
   pub name : text names plan.part.name ≡ card.name
-  pub inside : All (λ k. k < length names) plan.nets.items
-  pub nets : map (text names) plan.nets.items ≡ card.nets
   pub known : plan.model < length names
   pub model : text names plan.model ≡ card.model

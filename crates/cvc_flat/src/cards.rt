@@ -1,17 +1,20 @@
 //! The plan of a walk: what is kept of the cards of a netlist, of each once.
-ghost use Rattle.std.specs.Prelude.{◌≡◌, ◌<◌, ◌≤◌, [], false, All, IfOk, IfSome, MatchOption, None, length, map, slice_index_or};
+ghost use Rattle.std.specs.Prelude.{◌≡◌, ◌<◌, ◌≤◌, [], false, All, IfOk, IfSome, MatchOption, None, length, map, slice_index_or, take};
 ghost use Rattle.cvc_card.specs.Card.{has_twice, net_count};
+ghost use Rattle.cvc_card.specs.Formed.{ConnectsOnce};
 ghost use Rattle.cvc_cdl.specs.declared.netlist.Item.TheVariants as items;
 ghost use Rattle.cvc_cdl.specs.declared.netlist.Netlist.{Netlist};
 ghost use Rattle.cvc_cdl.specs.Ending.{cell_named, ports_cause};
 ghost use Rattle.cvc_cdl.specs.Netlist.{name_of_cell, name_of_global};
-ghost use Rattle.cvc_cdl.specs.WellFormed.{IsFormedItem, IsWellFormed};
+ghost use Rattle.cvc_cdl.specs.WellFormed.{IsFormedItem, IsFormedLevel, IsWellFormed};
 ghost use Rattle.cvc_flat.specs.Instances.{cell_at, cell_for, no_cell};
 ghost use Rattle.cvc_flat.specs.Names.{Grows};
+ghost use Rattle.cvc_flat.specs.Nets.{global_names as names_of_globals};
 ghost use Rattle.cvc_flat.specs.Planning.{AreCellPlans, AreSoundCards, CardsGrow, IsCellPlan, IsItemPlan, IsPlan, all_cells, opening_of, openings_at};
 
-use crate::names::Names;
-use crate::plan::{DevicePlan, device_of, number, part_of};
+use crate::names::{Names, narrow, number};
+use crate::pins::{PortPlan, port_names, port_plans};
+use crate::plan::{DevicePlan, device_of, part_of};
 use crate::rows::{DevicePart, InstancePart};
 use cvc_base::NoMemory;
 use cvc_card::{DeviceCard, InstCard};
@@ -26,11 +29,18 @@ pub(crate) struct Cards {
     pub devices: Vec<DevicePart>,
 }
 
-// What is kept of an item: of a device the number of its card, and its nets; of an instance the numbers of its card and of its cell.
+// What is kept of an instance's card: the number of its cell, and the plans of the cell's ports in order.
+#[derive(Drop)]
+pub(crate) struct InstPlan {
+    pub cell: u32,
+    pub ports: Vec<PortPlan>,
+}
+
+// What is kept of an item: the number of its card, and of a device its pins, of an instance its cell.
 #[derive(Drop)]
 pub(crate) enum ItemPlan {
     Device(u32, DevicePlan),
-    Inst(u32, u32),
+    Inst(u32, InstPlan),
 }
 
 // What is kept of a cell's items, in order.
@@ -54,16 +64,6 @@ pub(crate) struct Plan {
     pub cells: Vec<CellPlan>,
     pub top: u32,
     pub openings: Vec<OpeningPlan>,
-}
-
-// A count as the number of what comes next.
-fn narrow(count: usize) -> Result<u32, NoMemory>
-    ensures { IfOk result (λ k. k ≡ count) }
-{
-    match u32::try_from(count) {
-        Ok(number) => Ok(number),
-        Err(_) => Err(NoMemory),
-    }
 }
 
 // The names of cells, by their places.
@@ -99,62 +99,80 @@ fn cell_number(cells: &[Cell], names: &Names, name: &[u8]) -> Option<usize>
     names.find(name)
 }
 
-// What is kept of a device.
-fn device_plan(cards: &mut Cards, card: &DeviceCard) -> Result<ItemPlan, NoMemory>
+// What is kept of a device in a cell of these ports.
+fn device_plan(
+    cards: &mut Cards,
+    globals: usize,
+    ports: &Names,
+    card: &DeviceCard,
+) -> Result<ItemPlan, NoMemory>
     requires formed { length card.now.nets ≡ net_count card.now.letter }
+    requires below { globals ≤ length cards.old.names }
     requires sound { AreSoundCards cards.old }
     ensures grows { IfOk result (λ plan. CardsGrow cards.old cards.new) }
     ensures sound { IfOk result (λ plan. AreSoundCards cards.new) }
-    ensures plan { IfOk result (λ plan. (n : Netlist) → IsItemPlan n cards.new (items.Device card.now) plan) }
+    ensures plan { IfOk result (λ plan. (n : Netlist) → take globals cards.old.names ≡ names_of_globals n → IsItemPlan n cards.new ports.now (items.Device card.now) plan) }
 {
-    let plan = device_of(&mut cards.names, card)?;
+    let plan = device_of(&mut cards.names, globals, ports, card)?;
     let number = narrow(cards.devices.len())?;
     cards.devices.push(plan.part)?;
     Ok(ItemPlan::Device(number, plan))
 }
 
-// What is kept of an instance of the cell of this number.
+// What is kept of an instance, in a cell of these ports, of the cell of this number.
 fn inst_plan(
     alloc: Global,
     cards: &mut Cards,
+    globals: usize,
+    ports: &Names,
     place: usize,
     cell: &Cell,
     card: &InstCard,
 ) -> Result<ItemPlan, NoMemory>
     requires fits { ports_cause cell.now.ports card.now.ports ≡ None }
+    requires given { ConnectsOnce card.now.ports }
+    requires once { has_twice cell.now.ports ≡ false }
+    requires below { globals ≤ length cards.old.names }
     requires sound { AreSoundCards cards.old }
     ensures grows { IfOk result (λ plan. CardsGrow cards.old cards.new) }
     ensures sound { IfOk result (λ plan. AreSoundCards cards.new) }
-    ensures plan { IfOk result (λ plan. (n : Netlist) → place < length n.cells → slice_index_or n.cells place no_cell ≡ cell.now → cell_for n card.now.cell ≡ cell.now → IsItemPlan n cards.new (items.Inst card.now) plan) }
+    ensures plan { IfOk result (λ plan. (n : Netlist) → take globals cards.old.names ≡ names_of_globals n → place < length n.cells → slice_index_or n.cells place no_cell ≡ cell.now → cell_for n card.now.cell ≡ cell.now → IsItemPlan n cards.new ports.now (items.Inst card.now) plan) }
 {
-    let part = part_of(alloc, &mut cards.names, cell.ports.as_slice(), card)?;
+    let used = cell.ports.as_slice();
+    let part = part_of(alloc, &mut cards.names, used, card)?;
+    let plans = port_plans(alloc, &mut cards.names, globals, ports, used, &card.ports)?;
     let number = narrow(cards.parts.len())?;
-    let place = narrow(place)?;
+    let cell = narrow(place)?;
     cards.parts.push(part)?;
-    Ok(ItemPlan::Inst(number, place))
+    Ok(ItemPlan::Inst(number, InstPlan { cell, ports: plans }))
 }
 
-// What is kept of an item.
+// What is kept of an item in a cell of these ports.
 fn item_plan(
     alloc: Global,
     netlist: &Netlist,
     names: &Names,
     cards: &mut Cards,
+    globals: usize,
+    ports: &Names,
     item: &Item,
 ) -> Result<ItemPlan, NoMemory>
+    requires well { IsWellFormed netlist.now }
     requires names { names.now ≡ map name_of_cell netlist.now.cells }
     requires formed { IsFormedItem netlist.now.cells item.now }
+    requires below { globals ≤ length cards.old.names }
+    requires globals { take globals cards.old.names ≡ names_of_globals netlist.now }
     requires sound { AreSoundCards cards.old }
     ensures grows { IfOk result (λ plan. CardsGrow cards.old cards.new) }
     ensures sound { IfOk result (λ plan. AreSoundCards cards.new) }
-    ensures plan { IfOk result (IsItemPlan netlist.now cards.new item.now) }
+    ensures plan { IfOk result (IsItemPlan netlist.now cards.new ports.now item.now) }
 {
     match item {
-        Item::Device(card) => device_plan(cards, card),
+        Item::Device(card) => device_plan(cards, globals, ports, card),
         Item::Inst(card) => {
             let cells = netlist.cells.as_slice();
             match cell_number(cells, names, card.cell.bytes()) {
-                Some(place) => inst_plan(alloc, cards, place, &cells[place], card),
+                Some(place) => inst_plan(alloc, cards, globals, ports, place, &cells[place], card),
                 None => unreachable!(),
             }
         }
@@ -167,18 +185,23 @@ fn cell_plan(
     netlist: &Netlist,
     names: &Names,
     cards: &mut Cards,
-    items: &[Item],
+    globals: usize,
+    cell: &Cell,
 ) -> Result<CellPlan, NoMemory>
+    requires well { IsWellFormed netlist.now }
     requires names { names.now ≡ map name_of_cell netlist.now.cells }
-    requires formed { All (IsFormedItem netlist.now.cells) items.now }
+    requires formed { IsFormedLevel netlist.now.cells cell.now }
+    requires below { globals ≤ length cards.old.names }
+    requires globals { take globals cards.old.names ≡ names_of_globals netlist.now }
     requires sound { AreSoundCards cards.old }
     ensures grows { IfOk result (λ plan. CardsGrow cards.old cards.new) }
     ensures sound { IfOk result (λ plan. AreSoundCards cards.new) }
-    ensures plan { IfOk result (λ plan. IsCellPlan netlist.now cards.new items.now plan) }
+    ensures plan { IfOk result (IsCellPlan netlist.now cards.new cell.now) }
 {
+    let ports = port_names(alloc, cell.ports.as_slice())?;
     let mut plans = Vec::new(alloc);
-    for item in items {
-        plans.push(item_plan(alloc, netlist, names, cards, item)?)?;
+    for item in cell.items.as_slice() {
+        plans.push(item_plan(alloc, netlist, names, cards, globals, &ports, item)?)?;
     }
     Ok(CellPlan { items: plans })
 }
@@ -189,9 +212,12 @@ fn cell_plans(
     netlist: &Netlist,
     names: &Names,
     cards: &mut Cards,
+    globals: usize,
 ) -> Result<Vec<CellPlan>, NoMemory>
     requires formed { IsWellFormed netlist.now }
     requires names { names.now ≡ map name_of_cell netlist.now.cells }
+    requires below { globals ≤ length cards.old.names }
+    requires globals { take globals cards.old.names ≡ names_of_globals netlist.now }
     requires sound { AreSoundCards cards.old }
     ensures grows { IfOk result (λ plans. CardsGrow cards.old cards.new) }
     ensures sound { IfOk result (λ plans. AreSoundCards cards.new) }
@@ -199,9 +225,10 @@ fn cell_plans(
 {
     let mut plans = Vec::new(alloc);
     for cell in netlist.cells.as_slice() {
-        plans.push(cell_plan(alloc, netlist, names, cards, cell.items.as_slice())?)?;
+        plans.push(cell_plan(alloc, netlist, names, cards, globals, cell)?)?;
     }
-    plans.push(cell_plan(alloc, netlist, names, cards, netlist.main.items.as_slice())?)?;
+    let main = cell_plan(alloc, netlist, names, cards, globals, &netlist.main)?;
+    plans.push(main)?;
     Ok(plans)
 }
 
@@ -283,7 +310,7 @@ pub(crate) fn plan_of(alloc: Global, netlist: &Netlist) -> Result<Plan, NoMemory
         parts: Vec::new(alloc),
         devices: Vec::new(alloc),
     };
-    let plans = cell_plans(alloc, netlist, &cells, &mut cards)?;
+    let plans = cell_plans(alloc, netlist, &cells, &mut cards, globals)?;
     if cards.names.len() > u32::MAX as usize {
         return Err(NoMemory);
     }

@@ -1,31 +1,20 @@
 //! The cards of a netlist, with their names as numbers.
-ghost use Rattle.std.specs.Prelude.{◌≡◌, ◌<◌, IfOk, None, length, map};
+ghost use Rattle.std.specs.Prelude.{◌≡◌, ◌<◌, ◌≤◌, IfOk, None, length, map, take};
 ghost use Rattle.cvc_card.specs.Card.{net_count};
 ghost use Rattle.cvc_cdl.specs.Ending.{ports_cause};
 ghost use Rattle.cvc_flat.specs.Names.{Grows};
+ghost use Rattle.cvc_flat.specs.Pins.{ArePins};
 ghost use Rattle.cvc_flat.specs.Plans.{IsPlanOf};
 ghost use Rattle.cvc_flat.specs.Nets.{connections_of, paired};
-ghost use Rattle.cvc_flat.specs.Tables.{AreConnections, IsPart, link_of, pair_of, text};
+ghost use Rattle.cvc_flat.specs.Tables.{AreConnections, IsPart, link_of, pair_of};
 
-use crate::names::Names;
+use crate::names::{Names, number};
+use crate::pins::{Pin, device_pins};
 use crate::rows::{Connection, DevicePart, InstancePart};
 use arrayvec::ArrayVec;
 use cvc_base::{NoMemory, Pair, Text};
 use cvc_card::{DeviceCard, InstCard, Ports};
 use std::alloc::Global;
-
-// The number of a name.
-pub(crate) fn number(names: &mut Names, name: &[u8]) -> Result<u32, NoMemory>
-    ensures grows { IfOk result (λ k. Grows names.old names.new) }
-    ensures within { IfOk result (λ k. k < length names.new) }
-    ensures text { IfOk result (λ k. text names.new k ≡ name.now) }
-{
-    let place = names.number(name)?;
-    match u32::try_from(place) {
-        Ok(number) => Ok(number),
-        Err(_) => Err(NoMemory),
-    }
-}
 
 // A port and what it is connected to.
 fn connection(names: &mut Names, port: &[u8], net: &[u8]) -> Result<Connection, NoMemory>
@@ -94,25 +83,29 @@ pub(crate) fn part_of(
     Ok(InstancePart { name, connections })
 }
 
-// What is kept of a device's card, with the numbers of its nets and its model.
+// What is kept of a device's card, with its pins and the number of its model.
 #[derive(Debug, Drop)]
 pub(crate) struct DevicePlan {
     pub part: DevicePart,
-    pub nets: ArrayVec<u32, 4>,
+    pub pins: ArrayVec<Pin, 4>,
     pub model: u32,
 }
 
-// What is kept of a device's card.
-pub(crate) fn device_of(names: &mut Names, card: &DeviceCard) -> Result<DevicePlan, NoMemory>
-    requires { length card.now.nets ≡ net_count card.now.letter }
+// What is kept of the card of a device in a cell of these ports. Names below `globals` are global.
+pub(crate) fn device_of(
+    names: &mut Names,
+    globals: usize,
+    ports: &Names,
+    card: &DeviceCard,
+) -> Result<DevicePlan, NoMemory>
+    requires formed { length card.now.nets ≡ net_count card.now.letter }
+    requires below { globals ≤ length names.old }
     ensures grows { IfOk result (λ plan. Grows names.old names.new) }
     ensures plan { IfOk result (λ plan. IsPlanOf names.new card.now plan) }
+    ensures pins { IfOk result (λ plan. ArePins names.new (take globals names.old) ports.now card.now.nets plan.pins.items) }
 {
     let name = number(names, card.name.bytes())?;
-    let mut nets = ArrayVec::new();
-    for net in card.nets.as_slice() {
-        nets.push(number(names, net.bytes())?);
-    }
+    let pins = device_pins(names, globals, ports, card.nets.as_slice())?;
     let model = number(names, card.model.bytes())?;
     Ok(DevicePlan {
         part: DevicePart {
@@ -120,7 +113,7 @@ pub(crate) fn device_of(names: &mut Names, card: &DeviceCard) -> Result<DevicePl
             name,
             line: card.line,
         },
-        nets,
+        pins,
         model,
     })
 }

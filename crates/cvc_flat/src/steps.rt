@@ -1,5 +1,5 @@
 //! The steps of a walk.
-ghost use Rattle.std.specs.Prelude.{◌≡◌, ◌∷◌, ◌++◌, ◌+◌, ◌<◌, ◌≤◌, [], All, IfOk, IfSome, OnOk, length, map};
+ghost use Rattle.std.specs.Prelude.{◌≡◌, ◌∷◌, ◌++◌, ◌+◌, ◌<◌, ◌≤◌, List, [], All, IfOk, IfSome, OnOk, length, map};
 ghost use Rattle.std.specs.Option.{option_map};
 ghost use Rattle.cvc_base.specs.Answers.{Refuses};
 ghost use Rattle.cvc_base.specs.declared.fault.Refusal.TheVariants as refusals;
@@ -7,21 +7,25 @@ ghost use Rattle.cvc_card.specs.Card.{net_count};
 ghost use Rattle.cvc_cdl.specs.Building.{fault_at};
 ghost use Rattle.cvc_flat.specs.Flat.{limits, nets_once, opening_fault};
 ghost use Rattle.cvc_flat.specs.Levels.{instance_of};
-ghost use Rattle.cvc_flat.specs.Making.{AddsDevice, device_cause_in, instance_cause_in, known_nets, names_nets, net_of_opening, NumbersPins, tables_of};
+ghost use Rattle.cvc_flat.specs.Instances.{cell_at};
+ghost use Rattle.cvc_flat.specs.Joining.{IsHost};
+ghost use Rattle.cvc_flat.specs.Making.{AddsDevice, AreNetsWithin, AreRows, device_cause_in, instance_cause_in, known_nets, net_of_opening, NumbersPins};
 ghost use Rattle.cvc_flat.specs.Names.{AreApart};
-ghost use Rattle.cvc_flat.specs.Nets.{path_of as path_in};
+ghost use Rattle.cvc_flat.specs.Nets.{global_names};
+ghost use Rattle.cvc_flat.specs.Pins.{ArePins, IsPinWithin, pin_row};
 ghost use Rattle.cvc_flat.specs.Planning.{IsDevicePlan, IsPlan, opening_of};
-ghost use Rattle.cvc_flat.specs.Resolving.{AreNames};
 ghost use Rattle.cvc_flat.specs.Sharing.{IsShared};
 ghost use Rattle.cvc_flat.specs.Sights.{IsSight, SeesTheSame};
-ghost use Rattle.cvc_flat.specs.Tables.{AreWaysApart, IsSound, IsTree, path_of, way_at, ways_of};
+ghost use Rattle.cvc_flat.specs.declared.cards.Plan.{Plan};
+ghost use Rattle.cvc_flat.specs.declared.rows.InstanceRow.{InstanceRow};
 
 use crate::cards::Plan;
 use crate::nets::NetTable;
 use crate::pair_lists::PairLists;
 use crate::params::Sight;
+use crate::pins::Pin;
 use crate::plan::DevicePlan;
-use crate::resolve::net_row;
+use crate::ports::net_of_pin;
 use crate::rows::{DeviceRow, Group, InstanceRow, NetRow};
 use crate::shared::group_of;
 use arrayvec::ArrayVec;
@@ -109,42 +113,34 @@ pub(crate) fn opened(alloc: Global, plan: &Plan) -> Result<NetTable, Refusal>
     Ok(nets)
 }
 
-// The numbers of the nets of these names in an instance. A net that is new is put last.
+// The numbers of the nets of pins in an instance whose ports have these nets. A net that is new is put last.
 fn pins_of(
-    plan: &Plan,
-    instances: &[InstanceRow],
     nets: &mut NetTable,
     instance: u32,
-    names: &ArrayVec<u32, 4>,
+    ports: &[NetRow],
+    pins: &ArrayVec<Pin, 4>,
 ) -> Result<ArrayVec<NetId, 4>, NoMemory>
-    requires names { AreNames plan.now.cards.names plan.now.globals plan.now.cards.parts.items }
-    requires tree { IsTree instances.now }
-    requires cards { All (λ r. r.card < length plan.now.cards.parts.items) instances.now }
-    requires ways { AreWaysApart plan.now.cards.names plan.now.cards.parts.items instances.now }
-    requires nets { All (λ r. (r.instance ≤ length instances.now) × (r.name < length plan.now.cards.names)) nets.old }
-    requires inside { instance ≤ length instances.now }
-    requires known { All (λ k. k < length plan.now.cards.names) names.now.items }
-    ensures { IfOk result (λ pins. NumbersPins plan.now instances.now nets.old nets.new (names_nets plan.now (way_at (ways_of instances.now) instance) names.now.items) pins.items) }
+    requires { All (IsPinWithin (length ports.now)) pins.now.items }
+    ensures { IfOk result (λ ids. (p : Plan) (rows : List InstanceRow) → AreRows p rows nets.old → AreNetsWithin p rows (map (pin_row instance ports.now) pins.now.items) → NumbersPins p rows nets.old nets.new (known_nets p.cards rows (map (pin_row instance ports.now) pins.now.items)) ids.items) }
 {
-    let mut pins = ArrayVec::new();
-    for name in names.as_slice() {
-        let row = net_row(plan.globals, &plan.cards.parts, instances, instance, *name);
-        let place = nets.number(row)?;
+    let mut ids = ArrayVec::new();
+    for pin in pins.as_slice() {
+        let place = nets.number(net_of_pin(instance, ports, *pin))?;
         match u32::try_from(place) {
-            Ok(number) => pins.push(NetId(number)),
+            Ok(number) => ids.push(NetId(number)),
             Err(_) => return Err(NoMemory),
         }
     }
-    Ok(pins)
+    Ok(ids)
 }
 
 // Puts a device into an instance.
 pub(crate) fn place<'n>(
     alloc: Global,
     source: &Source<'n>,
-    instances: &[InstanceRow],
     sight: &mut Sight<'n>,
     instance: u32,
+    ports: &[NetRow],
     card: &'n DeviceCard,
     number: u32,
     device: &DevicePlan,
@@ -152,17 +148,16 @@ pub(crate) fn place<'n>(
     made: &mut Made,
 ) -> Result<(), Refusal>
     requires plan { IsPlan source.now.netlist.now source.now.plan.now }
-    requires sound { IsSound (tables_of source.now.netlist.now source.now.plan.now instances.now made.old) }
     requires groups { length made.old.groups.items ≤ length made.old.devices.items }
     requires sight { IsSight sight.old }
     requires same { sight.old.netlist.now ≡ source.now.netlist.now }
-    requires inside { instance ≤ length instances.now }
-    requires path { path_of source.now.plan.now.cards.names source.now.plan.now.cards.parts.items (way_at (ways_of instances.now) instance) ≡ path_in source.now.netlist.now (instance_of sight.old.levels.items) }
+    requires ports { length ports.now ≡ length (cell_at source.now.netlist.now (instance_of sight.old.levels.items)).ports }
     requires device { IsDevicePlan source.now.plan.now.cards card.now number device.now }
+    requires pins { ArePins source.now.plan.now.cards.names (global_names source.now.netlist.now) (cell_at source.now.netlist.now (instance_of sight.old.levels.items)).ports card.now.nets device.now.pins.items }
     requires formed { length card.now.nets ≡ net_count card.now.letter }
     requires shared { IfSome shared.old (IsShared source.now.plan.now.cards.names made.old.groups.items card.now) }
-    ensures refused { Refuses (option_map (fault_at card.now.line) (device_cause_in limits source.now.netlist.now (length made.old.devices.items) (known_nets source.now.plan.now.cards instances.now made.old.nets) (instance_of sight.old.levels.items) card.now)) result }
-    ensures added { OnOk result (AddsDevice source.now.netlist.now source.now.plan.now instances.now made.old made.new (instance_of sight.old.levels.items) card.now) }
+    ensures refused { (rows : List InstanceRow) → IsHost source.now.netlist.now source.now.plan.now rows made.old (instance_of sight.old.levels.items) instance ports.now → Refuses (option_map (fault_at card.now.line) (device_cause_in limits source.now.netlist.now (length made.old.devices.items) (known_nets source.now.plan.now.cards rows made.old.nets) (instance_of sight.old.levels.items) card.now)) result }
+    ensures added { (rows : List InstanceRow) → IsHost source.now.netlist.now source.now.plan.now rows made.old (instance_of sight.old.levels.items) instance ports.now → OnOk result (AddsDevice source.now.netlist.now source.now.plan.now rows made.old made.new (instance_of sight.old.levels.items) card.now) }
     ensures shared { OnOk result (IfSome shared.new (IsShared source.now.plan.now.cards.names made.new.groups.items card.now)) }
     ensures sight { OnOk result (IsSight sight.new) }
     ensures sees { OnOk result (SeesTheSame sight.old sight.new) }
@@ -170,13 +165,7 @@ pub(crate) fn place<'n>(
     if made.devices.len() >= DEVICES {
         return Err(refused(card.line, Cause::TooManyDevices));
     }
-    let pins = pins_of(
-        source.plan,
-        instances,
-        &mut made.nets,
-        instance,
-        &device.nets,
-    )?;
+    let pins = pins_of(&mut made.nets, instance, ports, &device.pins)?;
     if made.nets.len() > NETS {
         return Err(refused(card.line, Cause::TooManyNets));
     }

@@ -17,6 +17,7 @@ use crate::level::Level;
 use crate::nets::NetTable;
 use crate::pair_lists::lists_of;
 use crate::params::{Lists, Sight};
+use crate::ports::{join, ports_from, top_ports};
 use crate::rows::InstanceRow;
 use crate::shared::no_groups;
 use crate::steps::{Made, Source, enter, opened, place};
@@ -24,12 +25,13 @@ use cvc_base::{NoMemory, Refusal, Text};
 use cvc_cdl::{Cell, Item, Netlist};
 use std::alloc::Global;
 
-// Where the walk stands in an instance: the next item of its cell, whose plan has this number.
+// Where the walk stands in an instance: the next item of its cell, whose plan has this number and whose ports begin at `first`.
 #[derive(Clone, Copy)]
 pub(crate) struct Mark<'n> {
     pub instance: u32,
     pub cell: &'n Cell,
     pub plan: usize,
+    pub first: usize,
     pub next: usize,
 }
 
@@ -67,6 +69,8 @@ fn walk<'n>(
         devices: Vec::new(alloc),
         groups: Vec::new(alloc),
     };
+    let openings = source.plan.openings.as_slice();
+    let mut ports = top_ports(alloc, openings, source.plan.globals)?;
     let mut sight = start;
     let mut shared = no_groups(alloc, source.netlist)?;
     let mut above: Vec<Mark<'_>> = Vec::new(alloc);
@@ -74,6 +78,7 @@ fn walk<'n>(
         instance: 0,
         cell: source.top,
         plan: source.plan.top as usize,
+        first: 0,
         next: 0,
     };
     'visits: loop {
@@ -82,6 +87,7 @@ fn walk<'n>(
                 return Ok(Walked { instances, made });
             };
             sight.leave();
+            ports.truncate(mark.first);
             mark = up;
             continue 'visits;
         }
@@ -91,13 +97,14 @@ fn walk<'n>(
         mark.next += 1;
         match (item, &plans.items[mark.next - 1]) {
             (Item::Device(card), ItemPlan::Device(number, device)) => {
+                let own = ports_from(&ports, mark.first);
                 let groups = &mut shared[mark.plan];
                 place(
                     alloc,
                     source,
-                    &instances,
                     &mut sight,
                     mark.instance,
+                    own,
                     card,
                     *number,
                     device,
@@ -112,18 +119,22 @@ fn walk<'n>(
                     card: *number,
                 };
                 let instance = enter(&mut instances, sight.depth(), row, card.line)?;
-                let cell = cell_of(source.netlist, *plan);
-                let used = &source.lists.cells[*plan as usize];
+                let cell = cell_of(source.netlist, plan.cell);
+                let used = &source.lists.cells[plan.cell as usize];
                 let numbers = Lists {
                     card: lists.items[mark.next - 1],
                     cell: used.own,
                 };
+                let first = ports.len();
+                let plans = plan.ports.as_slice();
+                join(&mut ports, mark.first, mark.instance, instance, plans)?;
                 above.push(mark)?;
                 sight.enter(Level { card, cell }, numbers)?;
                 mark = Mark {
                     instance,
                     cell,
-                    plan: *plan as usize,
+                    plan: plan.cell as usize,
+                    first,
                     next: 0,
                 };
                 continue 'visits;

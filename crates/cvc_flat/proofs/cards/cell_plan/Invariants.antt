@@ -7,5 +7,5 @@ abbrev pub invariant-loop-item : goal.invariant-loop-item
 invariant-loop-item l = record {
   grows : CardsGrow l.initial.cards l.cards;
   sound : AreSoundCards l.cards;
-  plans : AllZip (IsItemPlan l.netlist l.cards) (take l.item-index l.items) l.plans.items;
+  plans : AllZip (IsItemPlan l.netlist l.cards l.cell.ports) (take l.item-index l.item-items) l.plans.items;
 }

@@ -8,7 +8,7 @@ use Rattle.cvc_flat.proofs.Plainly.{HaveParams, plain_more}
 use Rattle.cvc_flat.proofs.plain.plain_params.Goals as goal
 
 pub loop-pair-init : goal.loop-pair-init
-loop-pair-init c = λ n p. params_first n p ∙ ap Some (sym c.new-params.ensures)
+loop-pair-init c = λ n p. params_first n p ∙ ap Some (sym (c.reserve.ensures ∙ c.new-params.ensures))
 
 pub loop-pair-preserved : goal.loop-pair-preserved
 loop-pair-preserved c =

@@ -1,51 +1,43 @@
-use Rattle.std.proofs.Common.{◌≡◌, ◌<◌, List, [], length, get_or, take, sym, ap, subst, ◌∙◌, arith}
-use Rattle.std.specs.Prelude.{All}
-use Rattle.std.proofs.lemmas.List.{get_or-map, length-map, take_all, take_more}
-use Rattle.cvc_flat.specs.Making.{NumbersPins, names_nets}
-use Rattle.cvc_flat.specs.Nets.{Net, net_of, top_net}
-use Rattle.cvc_flat.specs.Resolving.{AreNames}
-use Rattle.cvc_flat.specs.Tables.{net_at, path_of, text, way_at, ways_of}
+use Rattle.std.proofs.Common.{List, [], length, map, take, refl, sym, ap, subst, ◌∙◌, arith}
+use Rattle.std.proofs.lemmas.List.{take_all}
+use Rattle.cvc_flat.specs.Making.{AreNetsWithin, NumbersPins, known_nets}
+use Rattle.cvc_flat.specs.Nets.{Net}
+use Rattle.cvc_flat.specs.Pins.{pin_row}
+use Rattle.cvc_flat.specs.Tables.{net_at, ways_of}
+use Rattle.cvc_flat.proofs.Joined.{pin_next}
 use Rattle.cvc_flat.proofs.Numbered.{pins_more, pins_none}
 use Rattle.cvc_flat.proofs.steps.pins_of.Goals as goal
 
-pub loop-name-init : goal.loop-name-init
-loop-name-init c = record {
-  count = ap length c.new-pins.ensures;
-  pins = subst (λ ids. NumbersPins c.args.plan.now c.args.instances.now c.args.nets.now c.args.nets.now [] ids) (sym c.new-pins.ensures) (pins_none c.args.plan.now c.args.instances.now c.requires.names.apart c.requires.ways c.args.nets.now c.requires.nets);
+pub loop-pin-init : goal.loop-pin-init
+loop-pin-init c = record {
+  count = ap length c.new-ids.ensures;
+  ids = λ p rows are within. subst (λ ids. NumbersPins p rows c.args.nets.now c.args.nets.now [] ids) (sym c.new-ids.ensures) (pins_none p rows are.apart are.ways c.args.nets.now are.within);
 }
 
-pub loop-name-preserved : goal.loop-name-preserved
-loop-name-preserved c =
-    let plan = c.args.plan.now in
-    let names = plan.cards.names in
-    let parts = plan.cards.parts.items in
-    let rows = c.args.instances.now in
-    let way = way_at (ways_of rows) c.args.instance in
-    let ks = c.as_slice-name-items.result.now in
-    let j = c.loop-name.name-index in
-    let k = get_or ks j 0 in
-    let row = c.net_row-row.result in
-    let wanted : List Net = names_nets plan way ks in
-    let next : Net = get_or wanted j (top_net []) in
-    let there : j < length wanted = omega (arith, length-map ks (λ k. net_of (take plan.globals names) (path_of names parts way) (text names k)), c.loop-name-test.true) in
-    let known : All (λ k. k < length names) ks = subst (All (λ k. k < length names)) (sym c.as_slice-name-items.ensures.value) c.requires.known in
-    let net = c.net_row-row.ensures.net names (subst (AreNames names plan.globals) (sym c.deref.ensures.value) c.requires.names) (known j 0 c.loop-name-test.true) in
-    let here : net_at names parts (ways_of rows) row ≡ next =
-    ap (λ ps. net_at names ps (ways_of rows) row) (sym c.deref.ensures.value) ∙ net.resolved ∙ ap (λ ps. net_of (take plan.globals names) (path_of names ps way) (text names k)) c.deref.ensures.value
-    ∙ sym (get_or-map (λ k. net_of (take plan.globals names) (path_of names parts way) (text names k)) ks j 0 (top_net []) c.loop-name-test.true) in
+pub loop-pin-preserved : goal.loop-pin-preserved
+loop-pin-preserved c =
+    let i = c.args.instance in
+    let ports = c.args.ports.now in
+    let items = c.as_slice-pin-items.result.now in
+    let j = c.loop-pin.pin-index in
+    let old = c.args.nets.now in
+    let row = c.net_of_pin.result in
     record {
-      count = omega (arith, c.loop-name.invariant.count, c.push.ensures.len);
-      pins = subst (λ ns. NumbersPins plan rows c.args.nets.now c.number.new.self ns c.push.new.self.items) (sym (take_more wanted j (top_net []) there))
-          (pins_more plan rows c.requires.names.apart c.requires.ways c.args.nets.now c.loop-name.nets c.number.new.self (take j wanted) next c.loop-name.pins.items c.push.new.self.items row c.in_ok-place.place record { 0 = c.in-Ok.number }
-          c.loop-name.invariant.pins (c.net_row-row.ensures.inside, net.named) here c.in_ok-place.ensures.nets c.in_ok-place.ensures.place (λ i. record { 0 = c.in-Ok.ensures.1 i }) c.push.ensures.items);
+      count = omega (arith, c.loop-pin.invariant.count, c.push.ensures.len);
+      ids = λ p rows are within.
+          let w = pin_next p rows i ports items j _ row c.loop-pin-test.true c.net_of_pin.ensures within in
+          let done : List Net = known_nets p.cards rows (map (pin_row i ports) (take j items)) in
+          subst (λ ns. NumbersPins p rows old c.number.new.self ns c.push.new.self.items) (sym w.0)
+          (pins_more p rows are.apart are.ways old c.loop-pin.nets c.number.new.self done (net_at p.cards.names p.cards.parts.items (ways_of rows) row) c.loop-pin.ids.items c.push.new.self.items row c.in_ok-place.place record { 0 = c.in-Ok.number }
+          (c.loop-pin.invariant.ids p rows are within) w.1 refl c.in_ok-place.ensures.nets c.in_ok-place.ensures.place (λ k. record { 0 = c.in-Ok.ensures.1 k }) c.push.ensures.items);
     }
 
 pub returns : goal.returns
-returns c =
-    let plan = c.args.plan.now in
-    let way = way_at (ways_of c.args.instances.now) c.args.instance in
-    let ks = c.as_slice-name-items.result.now in
-    let wanted : List Net = names_nets plan way ks in
-    let long = length-map ks (λ k. net_of (take plan.globals plan.cards.names) (path_of plan.cards.names plan.cards.parts.items way) (text plan.cards.names k)) in
-    subst (λ ns. NumbersPins plan c.args.instances.now c.args.nets.now c.loop-name.nets ns c.loop-name.pins.items)
-    (take_all c.loop-name.name-index wanted (omega (arith, long, c.loop-name-test.false)) ∙ ap (names_nets plan way) c.as_slice-name-items.ensures.value) c.loop-name.invariant.pins
+returns c = λ p rows are within.
+    let i = c.args.instance in
+    let ports = c.args.ports.now in
+    let same = c.as_slice-pin-items.ensures.value in
+    let items = c.as_slice-pin-items.result.now in
+    subst (λ l. NumbersPins p rows c.args.nets.now c.loop-pin.nets (known_nets p.cards rows (map (pin_row i ports) l)) c.loop-pin.ids.items)
+    (take_all c.loop-pin.pin-index items (omega (arith, c.loop-pin-test.false)) ∙ same)
+    (c.loop-pin.invariant.ids p rows are (subst (λ l. AreNetsWithin p rows (map (pin_row i ports) l)) (sym same) within))

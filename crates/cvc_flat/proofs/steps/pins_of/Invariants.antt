@@ -1,10 +1,13 @@
-use Rattle.std.proofs.Common.{◌≡◌, length, take}
-use Rattle.cvc_flat.specs.Making.{NumbersPins, names_nets}
-use Rattle.cvc_flat.specs.Tables.{way_at, ways_of}
+use Rattle.std.proofs.Common.{◌≡◌, List, length, map, take}
+use Rattle.cvc_flat.specs.declared.cards.Plan.{Plan}
+use Rattle.cvc_flat.specs.declared.rows.InstanceRow.{InstanceRow}
+use Rattle.cvc_flat.specs.Making.{AreNetsWithin, AreRows, NumbersPins, known_nets}
+use Rattle.cvc_flat.specs.Pins.{pin_row}
 use Rattle.cvc_flat.proofs.steps.pins_of.Given as goal
 
-abbrev pub invariant-loop-name : goal.invariant-loop-name
-invariant-loop-name l = record {
-  count : length l.pins.items ≡ l.name-index;
-  pins : NumbersPins l.plan l.instances l.initial.nets l.nets (take l.name-index (names_nets l.plan (way_at (ways_of l.instances) l.instance) l.name-items)) l.pins.items;
+abbrev pub invariant-loop-pin : goal.invariant-loop-pin
+invariant-loop-pin l = record {
+  count : length l.ids.items ≡ l.pin-index;
+  ids : (p : Plan) (rows : List InstanceRow) → AreRows p rows l.initial.nets → AreNetsWithin p rows (map (pin_row l.instance l.ports) l.pin-items)
+      → NumbersPins p rows l.initial.nets l.nets (known_nets p.cards rows (map (pin_row l.instance l.ports) (take l.pin-index l.pin-items))) l.ids.items;
 }

@@ -13,7 +13,7 @@ pub loop-pair-init : goal.loop-pair-init
 loop-pair-init c = record {
   sight = c.requires;
   same = same_itself c.args.self.now;
-  found = params_first c.args.self.now.netlist.now (instance_of c.args.self.now.levels.items) ∙ ap Some (sym c.new-params.ensures);
+  found = params_first c.args.self.now.netlist.now (instance_of c.args.self.now.levels.items) ∙ ap Some (sym (c.reserve.ensures ∙ c.new-params.ensures));
 }
 
 pub returns-in-None-clause-found : goal.returns-in-None-clause-found
