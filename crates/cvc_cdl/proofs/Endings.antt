@@ -2,7 +2,7 @@
 use Rattle.std.proofs.Common.{◌≡◌, ℕ, zero, suc, ◌+◌, ◌-◌, ◌<◌, ◌≤◌, Bool, true, false, cond, List, [], ◌∷◌, ◌++◌, length, map, take, drop, get_or, Option, Some, None, is_some, Bor, if◌then◌else◌, refl, sym, ap, subst, ◌∙◌, arith, append_assoc}
 use Rattle.std.specs.Prelude.{All}
 use Rattle.std.specs.Option.{IfSome, option_map, option_to_list}
-use Rattle.std.specs.List.{filter_map, find}
+use Rattle.std.specs.List.{cons_option, filter_map, find}
 use Rattle.std.specs.Str.{bytes_eq}
 use Rattle.std.proofs.lemmas.List.{drop_all, drop_more, length-map, map-append, nil_from_length, take_more}
 use Rattle.std.proofs.lemmas.List.Elements.{All-cons, All-map, All-nil, filter_map-append}
@@ -18,9 +18,11 @@ use Rattle.cvc_cdl.specs.Netlist.{name_of_cell, top_of}
 use Rattle.cvc_cdl.specs.Building.{fault_at, or_else}
 use Rattle.cvc_cdl.specs.Builder.{named_top}
 use Rattle.cvc_cdl.specs.Chains.{AreBelow}
-use Rattle.cvc_cdl.specs.Ending.{cell_cause, cell_named, first_instance_fault, inst_held, inst_in, instance_cause, ports_cause, top_fault}
-use Rattle.cvc_cdl.specs.Finishing.{all_uses_in, endless_fault_in, file_items, instances_in, insts_held, items_of_cell, names_endless, place_at, place_used, places_after, uses_in}
+use Rattle.cvc_cdl.specs.Ending.{cell_cause, cell_named, first_instance_fault, inst_in, instance_cause, ports_cause, top_fault}
+use Rattle.cvc_cdl.specs.Finishing.{all_uses_in, endless_fault_in, file_items, instances_in, items_of_cell, names_endless, place_at, place_used, places_after, uses_in}
 use Rattle.cvc_cdl.specs.Lookup.{place_of}
+use Rattle.cvc_cdl.specs.Placed.{IsPlaced, inst_placed, insts_placed, place_placed}
+use Rattle.cvc_cdl.specs.declared.library.Placed.{Placed}
 use Rattle.cvc_cdl.proofs.Lookups.{no_place, place_of-below}
 
 -- ## A filter of items
@@ -40,17 +42,17 @@ pub used_more : {X Y : Type 0} (h : X → Option Y) (xs : List X) (i : ℕ) (x :
     → next ≡ ys ++ option_to_list o → next ≡ filter_map h (take (i + 1) xs)
 used_more h xs i x lt at o is ys next so more = more ∙ (λ j. so j ++ option_to_list (is j)) ∙ sym (filter_more h xs i x lt at)
 
-insts-option : (o : Option (Bor InstCard)) → insts_held (option_to_list o) ≡ option_to_list (option_map inst_held o)
+insts-option : (o : Option Placed) → insts_placed (option_to_list o) ≡ option_to_list (option_map inst_placed o)
 insts-option None = refl
 insts-option (Some x) = refl
 
-pub insts_more : (is : List Item) (i : ℕ) (x : Item) → i < length is → x ≡ get_or is i x → (o : Option (Bor InstCard)) → option_map inst_held o ≡ inst_in x → (start found next : List (Bor InstCard))
-    → insts_held found ≡ insts_held start ++ instances_in (take i is) → next ≡ found ++ option_to_list o → insts_held next ≡ insts_held start ++ instances_in (take (i + 1) is)
+pub insts_more : (is : List Item) (i : ℕ) (x : Item) → i < length is → x ≡ get_or is i x → (o : Option Placed) → option_map inst_placed o ≡ inst_in x → (start found next : List Placed)
+    → insts_placed found ≡ insts_placed start ++ instances_in (take i is) → next ≡ found ++ option_to_list o → insts_placed next ≡ insts_placed start ++ instances_in (take (i + 1) is)
 insts_more is i x lt at o same start found next so more =
-    ap insts_held more ∙ map-append inst_held found (option_to_list o)
+    ap insts_placed more ∙ map-append inst_placed found (option_to_list o)
     ∙ (λ j. so j ++ (insts-option o ∙ ap option_to_list same) j)
-    ∙ append_assoc (insts_held start) (instances_in (take i is)) (option_to_list (inst_in x))
-    ∙ ap (λ ys. insts_held start ++ ys) (sym (filter_more inst_in is i x lt at))
+    ∙ append_assoc (insts_placed start) (instances_in (take i is)) (option_to_list (inst_in x))
+    ∙ ap (λ ys. insts_placed start ++ ys) (sym (filter_more inst_in is i x lt at))
 
 -- ## All instances in file order
 
@@ -124,40 +126,40 @@ cause_known cells x name i d same some cause is = is ∙ sym (ap (λ o. cell_cau
 
 -- ## The first of the instances
 
-module _ (xs : List (Bor InstCard)) (i : ℕ) where
-  left : (x : Bor InstCard) → i < length xs → x ≡ get_or xs i x → insts_held (drop i xs) ≡ x.now ∷ insts_held (drop (i + 1) xs)
-  left x lt at = ap insts_held (drop_more xs i x lt ∙ ap (λ y. y ∷ drop (i + 1) xs) (sym at))
+module _ (xs : List Placed) (i : ℕ) where
+  left : (x : Placed) → i < length xs → x ≡ get_or xs i x → insts_placed (drop i xs) ≡ x.inst.now ∷ insts_placed (drop (i + 1) xs)
+  left x lt at = ap insts_placed (drop_more xs i x lt ∙ ap (λ y. y ∷ drop (i + 1) xs) (sym at))
 
   module _ (cells : List Cell) (whole : Option Fault) where
-    module _ (so : whole ≡ first_instance_fault cells (insts_held (drop i xs))) where
-      pub misfit_here : (x : Bor InstCard) → i < length xs → x ≡ get_or xs i x → (cause : Cause) → Some cause ≡ instance_cause cells x.now → (fault : Fault) → fault ≡ fault_at x.now.line cause → Some fault ≡ whole
+    module _ (so : whole ≡ first_instance_fault cells (insts_placed (drop i xs))) where
+      pub misfit_here : (x : Placed) → i < length xs → x ≡ get_or xs i x → (cause : Cause) → Some cause ≡ instance_cause cells x.inst.now → (fault : Fault) → fault ≡ fault_at x.inst.now.line cause → Some fault ≡ whole
       unfolding first_instance_fault
       misfit_here x lt at cause is fault same =
-          ap Some same ∙ ap (λ o. or_else (option_map (fault_at x.now.line) o) (first_instance_fault cells (insts_held (drop (i + 1) xs)))) is
+          ap Some same ∙ ap (λ o. or_else (option_map (fault_at x.inst.now.line) o) (first_instance_fault cells (insts_placed (drop (i + 1) xs)))) is
           ∙ sym (so ∙ ap (first_instance_fault cells) (left x lt at))
 
-      pub misfit_later : (x : Bor InstCard) → i < length xs → x ≡ get_or xs i x → None ≡ instance_cause cells x.now → whole ≡ first_instance_fault cells (insts_held (drop (i + 1) xs))
+      pub misfit_later : (x : Placed) → i < length xs → x ≡ get_or xs i x → None ≡ instance_cause cells x.inst.now → whole ≡ first_instance_fault cells (insts_placed (drop (i + 1) xs))
       unfolding first_instance_fault
       misfit_later x lt at none =
-          so ∙ ap (first_instance_fault cells) (left x lt at) ∙ ap (λ o. or_else (option_map (fault_at x.now.line) o) (first_instance_fault cells (insts_held (drop (i + 1) xs)))) (sym none)
+          so ∙ ap (first_instance_fault cells) (left x lt at) ∙ ap (λ o. or_else (option_map (fault_at x.inst.now.line) o) (first_instance_fault cells (insts_placed (drop (i + 1) xs)))) (sym none)
 
       pub no_misfit : length xs ≤ i → None ≡ whole
       unfolding first_instance_fault
-      no_misfit le = sym (so ∙ ap (λ (ys : List (Bor InstCard)). first_instance_fault cells (insts_held ys)) (drop_all i xs le))
+      no_misfit le = sym (so ∙ ap (λ (ys : List Placed). first_instance_fault cells (insts_placed ys)) (drop_all i xs le))
 
-    module _ (so : whole ≡ endless_fault_in cells (insts_held (drop i xs))) where
-      pub recursive_here : (x : Bor InstCard) → i < length xs → x ≡ get_or xs i x → true ≡ names_endless cells x.now → (fault : Fault) → fault ≡ fault_at x.now.line Recursive → Some fault ≡ whole
+    module _ (so : whole ≡ endless_fault_in cells (insts_placed (drop i xs))) where
+      pub recursive_here : (x : Placed) → i < length xs → x ≡ get_or xs i x → true ≡ names_endless cells x.inst.now → (fault : Fault) → fault ≡ fault_at x.inst.now.line Recursive → Some fault ≡ whole
       recursive_here x lt at is fault same =
-          ap Some same ∙ ap (λ b. option_map (λ (y : InstCard). fault_at y.line Recursive) (cond b (Some x.now) (find (names_endless cells) (insts_held (drop (i + 1) xs))))) is
+          ap Some same ∙ ap (λ b. option_map (λ (y : InstCard). fault_at y.line Recursive) (cond b (Some x.inst.now) (find (names_endless cells) (insts_placed (drop (i + 1) xs))))) is
           ∙ sym (so ∙ ap (endless_fault_in cells) (left x lt at))
 
-      pub recursive_later : (x : Bor InstCard) → i < length xs → x ≡ get_or xs i x → false ≡ names_endless cells x.now → whole ≡ endless_fault_in cells (insts_held (drop (i + 1) xs))
+      pub recursive_later : (x : Placed) → i < length xs → x ≡ get_or xs i x → false ≡ names_endless cells x.inst.now → whole ≡ endless_fault_in cells (insts_placed (drop (i + 1) xs))
       recursive_later x lt at fails =
           so ∙ ap (endless_fault_in cells) (left x lt at)
-          ∙ ap (λ b. option_map (λ (y : InstCard). fault_at y.line Recursive) (cond b (Some x.now) (find (names_endless cells) (insts_held (drop (i + 1) xs))))) (sym fails)
+          ∙ ap (λ b. option_map (λ (y : InstCard). fault_at y.line Recursive) (cond b (Some x.inst.now) (find (names_endless cells) (insts_placed (drop (i + 1) xs))))) (sym fails)
 
       pub none_recursive : length xs ≤ i → None ≡ whole
-      none_recursive le = sym (so ∙ ap (λ (ys : List (Bor InstCard)). endless_fault_in cells (insts_held ys)) (drop_all i xs le))
+      none_recursive le = sym (so ∙ ap (λ (ys : List Placed). endless_fault_in cells (insts_placed ys)) (drop_all i xs le))
 
 -- ## Uses of cells
 
@@ -179,6 +181,24 @@ uses_below cells =
     let sizes : length names ≡ length (all_uses_in cells) = length-map cells name_of_cell ∙ sym (length-map cells (uses_in names)) in
     All-map (All (λ (i : ℕ). i < length (all_uses_in cells))) (uses_in names) cells
     (λ k d lt. subst (λ n. All (λ (i : ℕ). i < n) (uses_in names (get_or cells k d))) sizes (all_below (length names) (place_used names) (used_below names) (get_or cells k d).items))
+
+-- the places of what stands in a cell
+uses_placed : (cells : List Cell) (ps : List Placed) → All (IsPlaced cells) ps → filter_map place_placed ps ≡ filter_map (λ (x : InstCard). place_of (map name_of_cell cells) x.cell) (insts_placed ps)
+uses_placed cells [] h = refl
+uses_placed cells (p ∷ ps) h =
+    let first : IsPlaced cells p = h 0 p (omega arith) in
+    let later : All (IsPlaced cells) ps = λ k d lt. h (suc k) d (omega arith) in
+    λ i. cons_option (first.at i) (uses_placed cells ps later i)
+
+uses_inside : (names : List (List ℕ)) (is : List Item) → filter_map (λ (x : InstCard). place_of names x.cell) (instances_in is) ≡ filter_map (place_used names) is
+uses_inside names [] = refl
+uses_inside names (items.Device d ∷ is) = uses_inside names is
+uses_inside names (items.Inst x ∷ is) = ap (cons_option (place_of names x.cell)) (uses_inside names is)
+
+pub uses_are : (cells : List Cell) (ps : List Placed) (c : Cell) (is : List Item) → All (IsPlaced cells) ps → insts_placed ps ≡ instances_in is → is ≡ c.items → filter_map place_placed ps ≡ uses_in (map name_of_cell cells) c
+uses_are cells ps c is h e same =
+    uses_placed cells ps h ∙ ap (filter_map (λ (x : InstCard). place_of (map name_of_cell cells) x.cell)) e ∙ uses_inside (map name_of_cell cells) is
+    ∙ ap (filter_map (place_used (map name_of_cell cells))) same
 
 -- ## The top
 

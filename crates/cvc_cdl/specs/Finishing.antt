@@ -1,6 +1,5 @@
 -- The faults of a netlist as a whole, by the places of its cells, and the netlist that a draft gives. Only the builder's own parts speak of this.
 use Rattle.std.specs.Prelude.{◌≡◌, ℕ, ◌-◌, Bool, false, List, [], ◌∷◌, ◌++◌, map, take, drop, Option, Some, None, Result, Ok, Err, find}
-use Rattle.std.specs.Borrow.{Bor}
 use Rattle.std.specs.List.{filter_map}
 use Rattle.std.specs.Option.{option_map}
 use Rattle.cvc_base.specs.declared.cause.Cause.TheVariants.{OpenSubckt, Recursive}
@@ -16,7 +15,7 @@ use Rattle.cvc_cdl.specs.declared.netlist.Netlist.{Netlist}
 use Rattle.cvc_cdl.specs.Levels.{Level}
 use Rattle.cvc_cdl.specs.Netlist.{name_of_cell, top_of}
 use Rattle.cvc_cdl.specs.Building.{fault_at, or_else}
-use Rattle.cvc_cdl.specs.Ending.{first_instance_fault, inst_held, inst_in, top_fault}
+use Rattle.cvc_cdl.specs.Ending.{first_instance_fault, inst_in, top_fault}
 use Rattle.cvc_cdl.specs.Builder.{Draft}
 use Rattle.cvc_cdl.specs.Chains.{is_endless_by}
 use Rattle.cvc_cdl.specs.Lookup.{place_of}
@@ -25,9 +24,6 @@ use Rattle.cvc_cdl.specs.Lookup.{place_of}
 
 abbrev pub instances_in : List Item → List InstCard
 instances_in is = filter_map inst_in is
-
-abbrev pub insts_held : List (Bor InstCard) → List InstCard
-insts_held xs = map inst_held xs
 
 abbrev pub items_of_cell : Cell → List Item
 items_of_cell c = c.items

@@ -7,6 +7,7 @@ pub mod Builder
 pub mod Drafting
 pub mod Text
 pub mod Lookup
+pub mod Placed
 pub mod Finishing
 pub mod Chains
 pub mod Peeling

@@ -1,30 +1,57 @@
 //! The faults of a netlist as a whole.
-ghost use Rattle.std.specs.Prelude.{◌≡◌, ◌++◌, map, take, drop, IfOk, OnOk};
+ghost use Rattle.std.specs.Prelude.{◌≡◌, ◌++◌, map, take, drop, All, IfOk, OnOk};
+ghost use Rattle.std.specs.List.{filter_map};
 ghost use Rattle.cvc_cdl.specs.Netlist.{name_of_cell};
 ghost use Rattle.cvc_cdl.specs.Builder.{named_top};
 ghost use Rattle.cvc_cdl.specs.Ending.{first_instance_fault, top_fault};
 ghost use Rattle.cvc_cdl.specs.Chains.{TellsEndless, all_numbers};
-ghost use Rattle.cvc_cdl.specs.Finishing.{all_uses_in, cells_fault_in, endless_fault_in, file_instances, instances_in, insts_held, names_endless, place_at, place_used, uses_in};
+ghost use Rattle.cvc_cdl.specs.Finishing.{all_uses_in, cells_fault_in, endless_fault_in, file_instances, instances_in, names_endless, place_at};
+ghost use Rattle.cvc_cdl.specs.Placed.{IsPlaced, insts_placed, place_placed};
 
 use crate::endless::endless_cells;
 use crate::fault::fault_at;
-use crate::library::Library;
+use crate::library::{Library, Placed};
 use crate::netlist::{Cell, Item};
 use cvc_base::{Cause, Fault, NoMemory, Refusal};
-use cvc_card::InstCard;
 use cvc_names::Names;
 use std::alloc::Global;
 
+/// The instances of all levels in file order, and for each cell the places of the cells that its own name.
+#[derive(Drop)]
+struct FileInstances<'a> {
+    placed: Vec<Placed<'a>>,
+    uses: Vec<Vec<usize>>,
+}
+
 // Puts the instances among these items last.
-fn add_instances<'a>(found: &mut Vec<&'a InstCard>, items: &'a [Item]) -> Result<(), NoMemory>
-    ensures { OnOk result (insts_held found.new.items ≡ insts_held found.old.items ++ instances_in items.now) }
+fn add_instances<'a>(
+    library: &Library<'_>,
+    found: &mut Vec<Placed<'a>>,
+    items: &'a [Item],
+) -> Result<(), NoMemory>
+    requires { All (IsPlaced library.now.cells.now) found.old.items }
+    ensures insts { OnOk result (insts_placed found.new.items ≡ insts_placed found.old.items ++ instances_in items.now) }
+    ensures placed { OnOk result (All (IsPlaced library.now.cells.now) found.new.items) }
 {
     for item in items {
         if let Some(inst) = item.inst() {
-            found.push(inst)?;
+            found.push(library.placed(inst))?;
         }
     }
     Ok(())
+}
+
+// The places of these instances, where they have one.
+fn places_of(alloc: Global, placed: &[Placed<'_>]) -> Result<Vec<usize>, NoMemory>
+    ensures { IfOk result (λ places. places.items ≡ filter_map place_placed placed.now) }
+{
+    let mut places = Vec::new(alloc);
+    for inst in placed {
+        if let Some(place) = inst.place {
+            places.push(place)?;
+        }
+    }
+    Ok(places)
 }
 
 // The first n items, or all, and those behind them.
@@ -46,82 +73,57 @@ fn place_at(places: &[usize], i: usize, other: usize) -> usize
     if i < places.len() { places[i] } else { other }
 }
 
-// The instances of all levels, in file order. Before the cell at each place stand so many items on the main level.
+// The instances of all levels. Before the cell at each place stand so many items on the main level.
 fn instances<'a>(
     alloc: Global,
-    cells: &'a [Cell],
+    library: &Library<'a>,
     places: &[usize],
     items: &'a [Item],
-) -> Result<Vec<&'a InstCard>, NoMemory>
-    ensures { IfOk result (λ found. insts_held found.items ≡ file_instances items.now cells.now places.now) }
+) -> Result<FileInstances<'a>, NoMemory>
+    ensures insts { IfOk result (λ found. insts_placed found.placed.items ≡ file_instances items.now library.now.cells.now places.now) }
+    ensures placed { IfOk result (λ found. All (IsPlaced library.now.cells.now) found.placed.items) }
+    ensures uses { IfOk result (λ found. all_numbers found.uses.items ≡ all_uses_in library.now.cells.now) }
 {
-    let mut found = Vec::new(alloc);
+    let mut placed = Vec::new(alloc);
+    let mut uses = Vec::new(alloc);
     let mut from = 0;
     let mut rest = items;
+    let cells = library.cells;
     for (i, cell) in cells.iter().enumerate() {
         let place = place_at(places, i, from);
         let (before, after) = cut(rest, place.saturating_sub(from));
-        add_instances(&mut found, before)?;
-        add_instances(&mut found, cell.items.as_slice())?;
+        add_instances(library, &mut placed, before)?;
+        let mut own = Vec::new(alloc);
+        add_instances(library, &mut own, cell.items.as_slice())?;
+        uses.push(places_of(alloc, &own)?)?;
+        placed.append(&mut own)?;
         from = place;
         rest = after;
     }
-    add_instances(&mut found, rest)?;
-    Ok(found)
+    add_instances(library, &mut placed, rest)?;
+    Ok(FileInstances { placed, uses })
 }
 
 // The first instance that doesn't fit its cell.
-fn first_misfit(library: &Library<'_>, instances: &[&InstCard]) -> Option<Fault>
-    ensures { result ≡ first_instance_fault library.now.cells.now (insts_held instances.now) }
+fn first_misfit(library: &Library<'_>, instances: &[Placed<'_>]) -> Option<Fault>
+    requires { All (IsPlaced library.now.cells.now) instances.now }
+    ensures { result ≡ first_instance_fault library.now.cells.now (insts_placed instances.now) }
 {
-    for inst in instances {
-        if let Some(cause) = library.cause(inst) {
-            return Some(fault_at(inst.line, cause));
+    for placed in instances {
+        if let Some(cause) = library.cause(placed) {
+            return Some(fault_at(placed.inst.line, cause));
         }
     }
     None
 }
 
-// The place of the cell that an instance names.
-fn used_place(library: &Library<'_>, item: &Item) -> Option<usize>
-    ensures { result ≡ place_used (map name_of_cell library.now.cells.now) item.now }
-{
-    match item.inst() {
-        Some(inst) => library.place(inst.cell.bytes()),
-        None => None,
-    }
-}
-
-// The places of the cells that the instances of a cell name.
-fn uses(alloc: Global, library: &Library<'_>, cell: &Cell) -> Result<Vec<usize>, NoMemory>
-    ensures { IfOk result (λ uses. uses.items ≡ uses_in (map name_of_cell library.now.cells.now) cell.now) }
-{
-    let mut uses = Vec::new(alloc);
-    for item in cell.items.as_slice() {
-        if let Some(place) = used_place(library, item) {
-            uses.push(place)?;
-        }
-    }
-    Ok(uses)
-}
-
-// The same for each cell.
-fn all_uses(alloc: Global, library: &Library<'_>) -> Result<Vec<Vec<usize>>, NoMemory>
-    ensures { IfOk result (λ uses. all_numbers uses.items ≡ all_uses_in library.now.cells.now) }
-{
-    let mut found = Vec::new(alloc);
-    for cell in library.cells {
-        found.push(uses(alloc, library, cell)?)?;
-    }
-    Ok(found)
-}
-
 // Whether the instance names an endless cell.
-fn is_endless(library: &Library<'_>, endless: &[bool], inst: &InstCard) -> bool
-    requires { TellsEndless (all_uses_in library.now.cells.now) endless.now }
-    ensures { result ≡ names_endless library.now.cells.now inst.now }
+fn is_endless(library: &Library<'_>, endless: &[bool], placed: &Placed<'_>) -> bool
+    requires told { TellsEndless (all_uses_in library.now.cells.now) endless.now }
+    requires placed { IsPlaced library.now.cells.now placed.now }
+    ensures { result ≡ names_endless library.now.cells.now placed.now.inst.now }
 {
-    match library.place(inst.cell.bytes()) {
+    match placed.place {
         Some(place) => endless.get(place).copied().unwrap_or(false),
         None => false,
     }
@@ -131,14 +133,15 @@ fn is_endless(library: &Library<'_>, endless: &[bool], inst: &InstCard) -> bool
 fn first_recursive(
     library: &Library<'_>,
     endless: &[bool],
-    instances: &[&InstCard],
+    instances: &[Placed<'_>],
 ) -> Option<Fault>
-    requires { TellsEndless (all_uses_in library.now.cells.now) endless.now }
-    ensures { result ≡ endless_fault_in library.now.cells.now (insts_held instances.now) }
+    requires told { TellsEndless (all_uses_in library.now.cells.now) endless.now }
+    requires placed { All (IsPlaced library.now.cells.now) instances.now }
+    ensures { result ≡ endless_fault_in library.now.cells.now (insts_placed instances.now) }
 {
-    for inst in instances {
-        if is_endless(library, endless, inst) {
-            return Some(fault_at(inst.line, Cause::Recursive));
+    for placed in instances {
+        if is_endless(library, endless, placed) {
+            return Some(fault_at(placed.inst.line, Cause::Recursive));
         }
     }
     None
@@ -148,13 +151,14 @@ fn first_recursive(
 fn first_endless(
     alloc: Global,
     library: &Library<'_>,
-    instances: &[&InstCard],
+    instances: &FileInstances<'_>,
 ) -> Result<Option<Fault>, NoMemory>
-    ensures { IfOk result (λ fault. fault ≡ endless_fault_in library.now.cells.now (insts_held instances.now)) }
+    requires placed { All (IsPlaced library.now.cells.now) instances.now.placed.items }
+    requires uses { all_numbers instances.now.uses.items ≡ all_uses_in library.now.cells.now }
+    ensures { IfOk result (λ fault. fault ≡ endless_fault_in library.now.cells.now (insts_placed instances.now.placed.items)) }
 {
-    let uses = all_uses(alloc, library)?;
-    let endless = endless_cells(alloc, &uses)?;
-    Ok(first_recursive(library, &endless, instances))
+    let endless = endless_cells(alloc, &instances.uses)?;
+    Ok(first_recursive(library, &endless, &instances.placed))
 }
 
 // A top that is no cell.
@@ -181,8 +185,8 @@ pub(crate) fn check(
     ensures { IfOk result (λ fault. fault ≡ cells_fault_in cells.now (file_instances items.now cells.now places.now) (named_top top.entry)) }
 {
     let library = Library::of(alloc, cells, names)?;
-    let instances = instances(alloc, cells, places, items)?;
-    let misfit = first_misfit(&library, &instances);
+    let instances = instances(alloc, &library, places, items)?;
+    let misfit = first_misfit(&library, &instances.placed);
     if misfit.is_some() {
         return Ok(misfit);
     }

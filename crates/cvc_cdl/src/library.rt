@@ -3,6 +3,7 @@ ghost use Rattle.std.specs.Prelude.{◌≡◌, ◌<◌, length, map, IfOk, IfSom
 ghost use Rattle.cvc_cdl.specs.Netlist.{name_of_cell};
 ghost use Rattle.cvc_cdl.specs.Ending.{connects_ports, instance_cause, ports_cause};
 ghost use Rattle.cvc_cdl.specs.Lookup.{FindsPorts, FindsEachPort, place_of};
+ghost use Rattle.cvc_cdl.specs.Placed.{IsPlaced};
 
 use crate::netlist::Cell;
 use cvc_base::{Cause, NoMemory, Pair, Text};
@@ -59,6 +60,13 @@ fn port_names<'a>(alloc: Global, cells: &'a [Cell]) -> Result<Vec<BorrowedNames<
     Ok(names)
 }
 
+/// An instance, with the place of the cell that it names.
+#[derive(Drop)]
+pub(crate) struct Placed<'a> {
+    pub inst: &'a InstCard,
+    pub place: Option<usize>,
+}
+
 /// The cells of a netlist, with their names and the names of their ports.
 #[derive(Drop)]
 pub(crate) struct Library<'a> {
@@ -95,13 +103,23 @@ impl<'a> Library<'a> {
         self.names.find(name)
     }
 
-    /// Why an instance doesn't fit its cell.
-    pub(crate) fn cause(&self, inst: &InstCard) -> Option<Cause>
-        ensures { result ≡ instance_cause self.now.cells.now inst.now }
+    /// An instance with its place.
+    pub(crate) fn placed<'b>(&self, inst: &'b InstCard) -> Placed<'b>
+        ensures inst { result.inst.now ≡ inst.now }
+        ensures placed { IsPlaced self.now.cells.now result }
     {
-        let Some(place) = self.place(inst.cell.bytes()) else {
+        let place = self.place(inst.cell.bytes());
+        Placed { inst, place }
+    }
+
+    /// Why an instance doesn't fit its cell.
+    pub(crate) fn cause(&self, placed: &Placed<'_>) -> Option<Cause>
+        requires { IsPlaced self.now.cells.now placed.now }
+        ensures { result ≡ instance_cause self.now.cells.now placed.now.inst.now }
+    {
+        let Some(place) = placed.place else {
             return Some(Cause::UnknownCell);
         };
-        misfit(&self.ports[place], &self.cells[place], &inst.ports)
+        misfit(&self.ports[place], &self.cells[place], &placed.inst.ports)
     }
 }
