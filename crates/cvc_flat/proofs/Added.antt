@@ -56,7 +56,6 @@ module _ (n : Netlist) (p : Plan) (rows : List InstanceRow) (old new : Made) (wi
   abbrev ways : List Way
   ways = ways_of rows
 
-
   of_card : part_at p.cards.devices.items row.card ≡ plan.part
   of_card = ap (part_at p.cards.devices.items) at ∙ d.part
 

@@ -17,7 +17,7 @@ use Rattle.cvc_flat.specs.declared.rows.NetRow.{NetRow}
 use Rattle.cvc_flat.specs.FindNet.{is_slash, net_named, number_among, path_named, pieces}
 use Rattle.cvc_flat.specs.Flat.{FlatList}
 use Rattle.cvc_flat.specs.Instances.{same_names}
-use Rattle.cvc_flat.specs.Names.{AreApart, place_of}
+use Rattle.cvc_names.specs.Names.{AreApart, place_of}
 use Rattle.cvc_flat.specs.Nets.{Link, Net, connected, net_of, net_within, same_net, top_net}
 use Rattle.cvc_flat.specs.Resolving.{AreNames, is_row}
 use Rattle.cvc_flat.specs.Tables.{AreWaysApart, IsPart, Way, link_at, link_of, names_on, net_at, no_link, pair_of, path_of, text, way_at, ways_of}

@@ -6,7 +6,8 @@ use Rattle.std.proofs.lemmas.List.Elements.{All-append}
 use Rattle.cvc_base.specs.declared.param.Pair.{Pair}
 use Rattle.cvc_cdl.specs.Building.{is_among}
 use Rattle.cvc_flat.specs.declared.rows.Connection.{Connection}
-use Rattle.cvc_flat.specs.Names.{Grows, with_name}
+use Rattle.cvc_names.specs.Names.{with_name}
+use Rattle.cvc_flat.specs.Names.{Grows}
 use Rattle.cvc_flat.specs.Tables.{AreConnections, pair_of, text}
 use Rattle.cvc_flat.proofs.Lists.{all_head, all_one, all_tail}
 

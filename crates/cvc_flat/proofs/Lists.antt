@@ -11,7 +11,7 @@ use Rattle.std.proofs.lemmas.List.Sums.{fails_before_first, passes_at_first, pos
 use Rattle.std.proofs.lemmas.Bool.Decides.{nat_tests}
 use Rattle.std.proofs.lemmas.List.{get_or-take, get_or_append_left, length-map, length-take-le, map-append}
 use Rattle.cvc_cdl.specs.Building.{is_among}
-use Rattle.cvc_flat.specs.Names.{items_of, place_of, with_name}
+use Rattle.cvc_names.specs.Names.{items_of, place_of, with_name}
 use Rattle.cvc_flat.specs.Tables.{text}
 
 pub all_head : {X : Type 0} (P : X → Type 0) (x : X) (xs : List X) → All P (x ∷ xs) → P x

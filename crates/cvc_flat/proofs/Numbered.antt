@@ -11,7 +11,7 @@ use Rattle.cvc_flat.specs.declared.rows.InstanceRow.{InstanceRow}
 use Rattle.cvc_flat.specs.declared.rows.NetRow.{NetRow}
 use Rattle.cvc_flat.specs.Flat.{is_net_among, net_id, nets_once, number_of_net}
 use Rattle.cvc_flat.specs.Making.{NumbersPins, known_nets}
-use Rattle.cvc_flat.specs.Names.{AreApart}
+use Rattle.cvc_names.specs.Names.{AreApart}
 use Rattle.cvc_flat.specs.Nets.{Net, same_net}
 use Rattle.cvc_flat.specs.Resolving.{is_row}
 use Rattle.cvc_flat.specs.Tables.{AreWaysApart, net_at, ways_of}

@@ -7,7 +7,7 @@ use Rattle.cvc_flat.specs.declared.rows.InstancePart.{InstancePart}
 use Rattle.cvc_flat.specs.declared.rows.InstanceRow.{InstanceRow}
 use Rattle.cvc_flat.specs.declared.rows.NetRow.{NetRow}
 use Rattle.cvc_flat.specs.Flat.{is_net_among, nets_once}
-use Rattle.cvc_flat.specs.Names.{AreApart}
+use Rattle.cvc_names.specs.Names.{AreApart}
 use Rattle.cvc_flat.specs.Nets.{Net, same_net}
 use Rattle.cvc_flat.specs.Resolving.{is_row}
 use Rattle.cvc_flat.specs.Tables.{AreWaysApart, net_at, ways_of}

@@ -15,7 +15,7 @@ use Rattle.cvc_flat.specs.declared.cards.Plan.{Plan}
 use Rattle.cvc_flat.specs.declared.rows.NetRow.{NetRow}
 use Rattle.cvc_flat.specs.Flat.{Opening, limits, nets_once, opening_fault}
 use Rattle.cvc_flat.specs.Making.{known_nets, net_of_opening}
-use Rattle.cvc_flat.specs.Names.{AreApart}
+use Rattle.cvc_names.specs.Names.{AreApart}
 use Rattle.cvc_flat.specs.Nets.{Net, net_within, top_net}
 use Rattle.cvc_flat.specs.Resolving.{is_row}
 use Rattle.cvc_flat.specs.Tables.{AreWaysApart, Way, names_on, net_at, text, ways_of}

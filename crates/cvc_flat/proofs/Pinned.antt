@@ -21,7 +21,8 @@ use Rattle.cvc_flat.specs.declared.pins.Pin.TheVariants as pins
 use Rattle.cvc_flat.specs.declared.pins.PortPlan.{PortPlan}
 use Rattle.cvc_flat.specs.declared.pins.PortPlan.TheVariants as plans
 use Rattle.cvc_flat.specs.Instances.{no_cell}
-use Rattle.cvc_flat.specs.Names.{AreApart, Grows, place_of}
+use Rattle.cvc_names.specs.Names.{AreApart, place_of}
+use Rattle.cvc_flat.specs.Names.{Grows}
 use Rattle.cvc_flat.specs.Nets.{Link, Path, connected, connections_of, names_of, net_of, net_within, paired, top_net}
 use Rattle.cvc_flat.specs.Pins.{IsPin, IsPinWithin, IsPlanWithin, IsPortPlan, net_given, stands_for}
 use Rattle.cvc_flat.specs.Tables.{text}

@@ -36,7 +36,8 @@ use Rattle.cvc_flat.specs.declared.rows.DevicePart.{DevicePart}
 use Rattle.cvc_flat.specs.declared.rows.InstancePart.{InstancePart}
 use Rattle.cvc_flat.specs.Flat.{Opening, opening_at}
 use Rattle.cvc_flat.specs.Instances.{cell_for, no_cell}
-use Rattle.cvc_flat.specs.Names.{AreApart, Grows, items_of, place_of, with_name}
+use Rattle.cvc_names.specs.Names.{AreApart, items_of, place_of, with_name}
+use Rattle.cvc_flat.specs.Names.{Grows}
 use Rattle.cvc_flat.specs.Nets.{Link, global_names, link_of as link_in}
 use Rattle.cvc_flat.specs.Pins.{ArePins, ArePortPlans, IsPin, IsPortPlan, net_given}
 use Rattle.cvc_flat.specs.Planning.{AreCellPlans, AreSoundCards, CardsGrow, IsCellPlan, IsDevicePlan, IsInstPlan, IsItemPlan, opening_of}

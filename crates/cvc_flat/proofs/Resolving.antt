@@ -13,7 +13,7 @@ use Rattle.cvc_flat.specs.declared.rows.Connection.{Connection}
 use Rattle.cvc_flat.specs.declared.rows.InstancePart.{InstancePart}
 use Rattle.cvc_flat.specs.declared.rows.InstanceRow.{InstanceRow}
 use Rattle.cvc_flat.specs.Nets.{Link, Net, connected, name_of_link, names_of, net_of, net_within, top_net}
-use Rattle.cvc_flat.specs.Names.{AreApart}
+use Rattle.cvc_names.specs.Names.{AreApart}
 use Rattle.cvc_flat.specs.Resolving.{AreNames, net_beside, own_name}
 use Rattle.cvc_flat.specs.Tables.{IsPart, link_at, no_row, pair_of, path_of, text}
 use borrow.Author.Count.{below_more}

@@ -18,7 +18,7 @@ use Rattle.cvc_flat.specs.declared.rows.InstanceRow.{InstanceRow}
 use Rattle.cvc_flat.specs.declared.steps.Made.{Made}
 use Rattle.cvc_flat.specs.declared.walk.Mark.{Mark}
 use Rattle.cvc_flat.specs.Instances.{Instance, no_cell}
-use Rattle.cvc_flat.specs.Names.{AreApart}
+use Rattle.cvc_names.specs.Names.{AreApart}
 use Rattle.cvc_flat.specs.Places.{has_loop}
 use Rattle.cvc_flat.specs.Planning.{all_cells}
 use Rattle.cvc_flat.specs.Plans.{IsPlanOf}

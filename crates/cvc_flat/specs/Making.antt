@@ -20,7 +20,7 @@ use Rattle.cvc_flat.specs.Flat.{Limits, Opening, devices_behind, flat_device, in
 use Rattle.cvc_flat.specs.Instances.{Instance, cell_at, no_cell}
 use Rattle.cvc_flat.specs.Left.{Frame}
 use Rattle.cvc_flat.specs.Levels.{card_of}
-use Rattle.cvc_flat.specs.Names.{AreApart}
+use Rattle.cvc_names.specs.Names.{AreApart}
 use Rattle.cvc_flat.specs.Nets.{Net, path_of as path_in}
 use Rattle.cvc_flat.specs.Places.{has_loop}
 use Rattle.cvc_flat.specs.Planning.{all_cells}

@@ -21,7 +21,8 @@ use Rattle.cvc_flat.specs.declared.rows.DevicePart.{DevicePart}
 use Rattle.cvc_flat.specs.declared.rows.InstancePart.{InstancePart}
 use Rattle.cvc_flat.specs.Flat.{Opening, opening_at}
 use Rattle.cvc_flat.specs.Instances.{cell_at, cell_for, no_cell}
-use Rattle.cvc_flat.specs.Names.{AreApart, Grows}
+use Rattle.cvc_names.specs.Names.{AreApart}
+use Rattle.cvc_flat.specs.Names.{Grows}
 use Rattle.cvc_flat.specs.Nets.{global_names, link_of}
 use Rattle.cvc_flat.specs.Pins.{ArePins, ArePortPlans}
 use Rattle.cvc_flat.specs.Plans.{IsPlanOf}

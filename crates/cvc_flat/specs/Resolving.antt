@@ -5,7 +5,7 @@ use Rattle.cvc_flat.specs.declared.rows.Connection.{Connection}
 use Rattle.cvc_flat.specs.declared.rows.InstancePart.{InstancePart}
 use Rattle.cvc_flat.specs.declared.rows.InstanceRow.{InstanceRow}
 use Rattle.cvc_flat.specs.declared.rows.NetRow.{NetRow}
-use Rattle.cvc_flat.specs.Names.{AreApart}
+use Rattle.cvc_names.specs.Names.{AreApart}
 use Rattle.cvc_flat.specs.Nets.{net_of}
 use Rattle.cvc_flat.specs.Tables.{IsPart, link_at, net_at, no_row, path_of, text, way_at, ways_of}
 

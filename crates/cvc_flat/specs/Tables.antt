@@ -12,7 +12,7 @@ use Rattle.cvc_flat.specs.declared.rows.Group.{Group}
 use Rattle.cvc_flat.specs.declared.rows.InstancePart.{InstancePart}
 use Rattle.cvc_flat.specs.declared.rows.InstanceRow.{InstanceRow}
 use Rattle.cvc_flat.specs.declared.rows.NetRow.{NetRow}
-use Rattle.cvc_flat.specs.Names.{AreApart}
+use Rattle.cvc_names.specs.Names.{AreApart}
 use Rattle.cvc_flat.specs.Nets.{Link, Net, Path, names_of, net_within}
 use Rattle.cvc_flat.specs.Flat.{FlatDevice}
 use Rattle.cvc_flat.specs.Held.{Held}

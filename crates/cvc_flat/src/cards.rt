@@ -12,13 +12,14 @@ ghost use Rattle.cvc_flat.specs.Names.{Grows};
 ghost use Rattle.cvc_flat.specs.Nets.{global_names as names_of_globals};
 ghost use Rattle.cvc_flat.specs.Planning.{AreCellPlans, AreSoundCards, CardsGrow, IsCellPlan, IsItemPlan, IsPlan, all_cells, opening_of, openings_at};
 
-use crate::names::{Names, narrow, number};
+use crate::names::{narrow, number};
 use crate::pins::{PortPlan, port_names, port_plans};
 use crate::plan::{DevicePlan, device_of, part_of};
 use crate::rows::{DevicePart, InstancePart};
 use cvc_base::NoMemory;
 use cvc_card::{DeviceCard, InstCard};
 use cvc_cdl::{Cell, Global as GlobalNet, Item, Netlist};
+use cvc_names::Names;
 use std::alloc::Global;
 
 // What is kept of cards: their names, each once, and the parts of instances and devices.

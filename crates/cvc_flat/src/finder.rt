@@ -5,9 +5,9 @@ ghost use Rattle.cvc_flat.specs.Hashes.{hash_on};
 ghost use Rattle.cvc_flat.specs.Tables.{IsTree, text, ways_of};
 
 use crate::hashes::{EMPTY, Hashes, hash_on};
-use crate::names::Names;
 use crate::rows::{InstancePart, InstanceRow, NetRow};
 use cvc_base::NoMemory;
+use cvc_names::Names;
 use std::alloc::Global;
 
 // What nets are looked up by: for the top and each instance the hash of what is printed in front of a name there, and for each net that of its

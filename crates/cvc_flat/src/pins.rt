@@ -8,10 +8,11 @@ ghost use Rattle.cvc_flat.specs.Names.{Grows};
 ghost use Rattle.cvc_flat.specs.Nets.{connections_of, paired};
 ghost use Rattle.cvc_flat.specs.Pins.{ArePins, ArePortPlans, IsPin, IsPortPlan, name_of_pair, net_given};
 
-use crate::names::{Names, narrow, number};
+use crate::names::{narrow, number};
 use arrayvec::ArrayVec;
 use cvc_base::{NoMemory, Pair, Text};
 use cvc_card::Ports;
+use cvc_names::Names;
 use std::alloc::Global;
 
 // How an instance finds the net of a name of its cell: a global by the number of its name, the net of a port by the port's place among the cell's

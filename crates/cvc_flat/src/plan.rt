@@ -8,12 +8,13 @@ ghost use Rattle.cvc_flat.specs.Plans.{IsPlanOf};
 ghost use Rattle.cvc_flat.specs.Nets.{connections_of, paired};
 ghost use Rattle.cvc_flat.specs.Tables.{AreConnections, IsPart, link_of, pair_of};
 
-use crate::names::{Names, number};
+use crate::names::number;
 use crate::pins::{Pin, device_pins};
 use crate::rows::{Connection, DevicePart, InstancePart};
 use arrayvec::ArrayVec;
 use cvc_base::{NoMemory, Pair, Text};
 use cvc_card::{DeviceCard, InstCard, Ports};
+use cvc_names::Names;
 use std::alloc::Global;
 
 // A port and what it is connected to.

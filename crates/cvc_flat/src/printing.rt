@@ -7,11 +7,11 @@ ghost use Rattle.cvc_flat.specs.Instances.{printed};
 ghost use Rattle.cvc_flat.specs.Tables.{IsTree, names_on, text, way_at, ways_of};
 
 use crate::flat::Flat;
-use crate::names::Names;
 use crate::rows::{InstancePart, InstanceRow};
 use crate::way::way_up;
 use arrayvec::ArrayVec;
 use cvc_base::{DevId, NetId};
+use cvc_names::Names;
 
 /// Room for the pieces of a printed name: two for each instance on the way to it, and its own.
 pub type Pieces<'a> = ArrayVec<&'a [u8], 129>;

@@ -10,7 +10,7 @@ ghost use Rattle.cvc_flat.specs.Levels.{instance_of};
 ghost use Rattle.cvc_flat.specs.Instances.{cell_at};
 ghost use Rattle.cvc_flat.specs.Joining.{IsHost};
 ghost use Rattle.cvc_flat.specs.Making.{AddsDevice, AreNetsWithin, AreRows, device_cause_in, instance_cause_in, known_nets, net_of_opening, NumbersPins};
-ghost use Rattle.cvc_flat.specs.Names.{AreApart};
+ghost use Rattle.cvc_names.specs.Names.{AreApart};
 ghost use Rattle.cvc_flat.specs.Nets.{global_names};
 ghost use Rattle.cvc_flat.specs.Pins.{ArePins, IsPinWithin, pin_row};
 ghost use Rattle.cvc_flat.specs.Planning.{IsDevicePlan, IsPlan, opening_of};

@@ -5,10 +5,10 @@ ghost use Rattle.cvc_flat.specs.Answers.{WritesText};
 ghost use Rattle.cvc_flat.specs.Instances.{printed};
 ghost use Rattle.cvc_flat.specs.Tables.{IsTree, names_on, text, way_at, ways_of};
 
-use crate::names::Names;
 use crate::rows::{InstancePart, InstanceRow};
 use arrayvec::ArrayVec;
 use cvc_io::{Sink, WriteFailed};
+use cvc_names::Names;
 
 // Writes the whole text, as far as the sink takes it.
 pub(crate) fn write_all<K: Sink>(sink: &mut K, text: &[u8]) -> Result<(), WriteFailed>

@@ -1,7 +1,7 @@
 use Rattle.std.proofs.Common.{◌≡◌, ◌<◌, [], length, map, get_or, sym, ap, ◌∙◌, arith}
 use Rattle.std.proofs.lemmas.List.{get_or-map, length-map}
 use Rattle.cvc_cdl.specs.Netlist.{name_of_cell}
-use Rattle.cvc_flat.specs.Names.{with_name}
+use Rattle.cvc_names.specs.Names.{with_name}
 use Rattle.cvc_flat.proofs.Planned.{next_name}
 use Rattle.cvc_flat.proofs.cards.cell_names.Goals as goal
 

@@ -4,7 +4,7 @@ use Rattle.std.specs.Option.{option_and_then, option_map}
 use Rattle.std.proofs.lemmas.List.{length-drop, length-map, take_all}
 use Rattle.cvc_flat.specs.FindNet.{net_named, number_among, pieces}
 use Rattle.cvc_flat.specs.Finder.{net_hash, way_hash}
-use Rattle.cvc_flat.specs.Names.{place_of}
+use Rattle.cvc_names.specs.Names.{place_of}
 use Rattle.cvc_flat.specs.Nets.{Net, Path, net_of}
 use Rattle.cvc_flat.specs.Resolving.{is_row}
 use Rattle.cvc_flat.specs.Tables.{Way, names_on, net_at, path_of, way_at, ways_of}
@@ -62,7 +62,7 @@ returns-in_err-name-clause-place c = λ f g is.
     let rest = c.loop-place.rest.now in
     let up = c.loop-place.up in
     let way : Way = way_at (ways_of rows) up in
-    let unknown : place_of names rest ≡ None = sym c.find.ensures ∙ c.in_err-name.was in
+    let unknown : place_of names rest ≡ None = sym c.find.ensures.place ∙ c.in_err-name.was in
     let number : Net → Option ℕ = number_among (map (net_at names parts (ways_of rows)) c.args.nets.now) in
     let whole : net_named f [] (pieces c.args.text.now) ≡ Some (net_of f.globals (path_of names parts way) rest) =
     sym (c.loop-place.invariant.named f g is) ∙ last_step f (names_on names parts way) rest (sym c.first_slash.ensures.place ∙ c.in_default.is)
@@ -80,7 +80,7 @@ returns-clause-place c = λ f g is.
     let rest = c.loop-place.rest.now in
     let up = c.loop-place.up in
     let way : Way = way_at (ways_of rows) up in
-    let found : place_of names rest ≡ Some c.in_ok-name.name = sym c.find.ensures ∙ c.in_ok-name.was in
+    let found : place_of names rest ≡ Some c.in_ok-name.name = sym c.find.ensures.place ∙ c.in_ok-name.was in
     let below : c.in_ok-name.name < length names = place_below names rest c.in_ok-name.name found in
     let number : Net → Option ℕ = number_among (map (net_at names parts (ways_of rows)) c.args.nets.now) in
     let whole : net_named f [] (pieces c.args.text.now) ≡ Some (net_of f.globals (path_of names parts way) rest) =

@@ -3,7 +3,7 @@ use Rattle.std.specs.Prelude.{position}
 use Rattle.std.specs.Option.{option_map}
 use Rattle.std.specs.Str.{bytes_eq}
 use Rattle.cvc_base.specs.declared.param.Pair.{Pair}
-use Rattle.cvc_flat.specs.Names.{place_of}
+use Rattle.cvc_names.specs.Names.{place_of}
 use Rattle.cvc_flat.specs.Pins.{name_of_pair}
 use Rattle.cvc_flat.proofs.Lists.{place_map}
 use Rattle.cvc_flat.proofs.Planned.{first_found, none_found}
@@ -13,7 +13,7 @@ pub returns-in_err-place : goal.returns-in_err-place
 returns-in_err-place c =
     let pairs = c.args.pairs.now in
     let port = c.args.port.now in
-    let at : None ≡ position (λ (p : Pair). bytes_eq port p.name) pairs = c.in_err-place.ensures ∙ ap (λ ns. place_of ns port) c.requires ∙ place_map (bytes_eq port) name_of_pair pairs in
+    let at : None ≡ position (λ (p : Pair). bytes_eq port p.name) pairs = c.in_err-place.ensures.place ∙ ap (λ ns. place_of ns port) c.requires ∙ place_map (bytes_eq port) name_of_pair pairs in
     ap (option_map (λ text. text.now)) c.from_residual.ensures ∙ sym (ap (option_map (λ (p : Pair). p.value)) (none_found (λ (p : Pair). bytes_eq port p.name) pairs (sym at)))
 
 pub returns : goal.returns
@@ -21,6 +21,6 @@ returns c =
     let pairs = c.args.pairs.now in
     let port = c.args.port.now in
     let pair = c.index-pairs-place.result in
-    let at : Some c.in_ok-place.place ≡ position (λ (p : Pair). bytes_eq port p.name) pairs = c.in_ok-place.ensures ∙ ap (λ ns. place_of ns port) c.requires ∙ place_map (bytes_eq port) name_of_pair pairs in
+    let at : Some c.in_ok-place.place ≡ position (λ (p : Pair). bytes_eq port p.name) pairs = c.in_ok-place.ensures.place ∙ ap (λ ns. place_of ns port) c.requires ∙ place_map (bytes_eq port) name_of_pair pairs in
     let found = first_found (λ (p : Pair). bytes_eq port p.name) pairs c.in_ok-place.place pair (sym at) in
     ap Some (c.bytes.ensures ∙ ap (λ (p : Pair). p.value) c.index-pairs-place.is) ∙ sym (ap (option_map (λ (p : Pair). p.value)) found.1)

@@ -1,6 +1,6 @@
 use Rattle.std.proofs.Common.{◌≡◌, ◌<◌, [], length, map, get_or, sym, ap, ◌∙◌, arith}
 use Rattle.std.proofs.lemmas.List.{get_or-map, length-map}
-use Rattle.cvc_flat.specs.Names.{with_name}
+use Rattle.cvc_names.specs.Names.{with_name}
 use Rattle.cvc_flat.specs.Pins.{name_of_pair}
 use Rattle.cvc_flat.proofs.Planned.{next_name}
 use Rattle.cvc_flat.proofs.pins.pair_names.Goals as goal

@@ -1,6 +1,6 @@
 use Rattle.std.proofs.Common.{[], ap, ◌∙◌}
 use Rattle.std.proofs.lemmas.List.{get_or_default}
-use Rattle.cvc_flat.specs.Names.{with_name}
+use Rattle.cvc_names.specs.Names.{with_name}
 use Rattle.cvc_flat.proofs.Planned.{next_name}
 use Rattle.cvc_flat.proofs.pins.port_names.Goals as goal
 
