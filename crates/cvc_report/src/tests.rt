@@ -88,17 +88,17 @@ fn a_sink_of_every_room_has_a_front(rt: HostRuntime) -> Result<(), Fail> {
     Ok(())
 }
 
-// A text of so many bytes takes as many calls as it fills buffers of 65,536 bytes, rounded up. It has 15 bytes besides the word.
+// A text of so many bytes takes as many calls as it fills buffers of 16,384 bytes, rounded up. It has 15 bytes besides the word.
 #[test]
 fn a_long_text_is_written_in_large_pieces(rt: HostRuntime) -> Result<(), Fail> {
     for (bytes, calls) in [
         (15, 1),
-        (65_535, 1),
-        (65_536, 1),
-        (65_537, 2),
-        (131_072, 2),
-        (131_073, 3),
-        (200_000, 4),
+        (16_383, 1),
+        (16_384, 1),
+        (16_385, 2),
+        (32_768, 2),
+        (32_769, 3),
+        (50_000, 4),
     ] {
         let word = vec![in rt.alloc(); b'w'; bytes - 15]?;
         let mut sink = Calls { count: 0, bytes: 0 };

@@ -11,7 +11,7 @@ use arrayvec::ArrayVec;
 use cvc_io::{Sink, WriteFailed};
 
 /// How many bytes wait at most before the sink takes them.
-const BUFFER: usize = 65_536;
+const BUFFER: usize = 16_384;
 
 /// A sink, and the bytes that wait for it.
 #[derive(Drop)]

@@ -110,6 +110,36 @@ pub(crate) fn as_step<T: Drop>(status: Status, loaded: Result<T, LoadFault>) -> 
     }
 }
 
+// The bytes that are left of the open file: all, or more than `limit`. They come through the buffer.
+fn read_through<S: Shelf>(
+    alloc: Global,
+    limit: usize,
+    shelf: &mut S,
+    buf: &mut [u8],
+) -> Result<Vec<u8>, LoadFault>
+    requires limit { limit ≤ 134217728 }
+    requires open { IsSome (S.standing shelf.old) }
+    requires room { 0 < length buf.old }
+    ensures still { IsSome (S.standing shelf.new) }
+    ensures files { S.files shelf.new ≡ S.files shelf.old }
+    ensures counts { NoneFalls (S.faults shelf.old) (S.faults shelf.new) }
+    ensures bytes { IfOk result (λ bytes. OfRest (S.standing shelf.old) (λ rest. up_to limit rest ≡ up_to limit bytes.items)) }
+    ensures never_at { IsNeverAt result }
+    ensures cause { UnreadOnlyWhere result (RoseFor (S.standing shelf.old) (S.faults shelf.old) (S.faults shelf.new)) }
+{
+    let mut bytes = Vec::new(alloc);
+    'pieces: while bytes.len() <= limit {
+        let Ok(count) = shelf.read(buf) else {
+            return Err(LoadFault::Read);
+        };
+        if count == 0 {
+            return Ok(bytes);
+        }
+        bytes.extend_from_slice(&buf[..count])?;
+    }
+    Ok(bytes)
+}
+
 // The bytes that are left of the open file: all, or more than `limit`.
 fn read_rest<S: Shelf>(alloc: Global, limit: usize, shelf: &mut S) -> Result<Vec<u8>, LoadFault>
     requires limit { limit ≤ 134217728 }
@@ -121,18 +151,8 @@ fn read_rest<S: Shelf>(alloc: Global, limit: usize, shelf: &mut S) -> Result<Vec
     ensures never_at { IsNeverAt result }
     ensures cause { UnreadOnlyWhere result (RoseFor (S.standing shelf.old) (S.faults shelf.old) (S.faults shelf.new)) }
 {
-    let mut bytes = Vec::new(alloc);
-    let mut buf = [0; PIECE];
-    'pieces: while bytes.len() <= limit {
-        let Ok(count) = shelf.read(&mut buf) else {
-            return Err(LoadFault::Read);
-        };
-        if count == 0 {
-            return Ok(bytes);
-        }
-        bytes.extend_from_slice(&buf[..count])?;
-    }
-    Ok(bytes)
+    let mut buf = vec![in alloc; 0; PIECE]?;
+    read_through(alloc, limit, shelf, buf.as_mut_slice())
 }
 
 // The bytes of the file of this name: all, or more than `limit`.

@@ -1,5 +1,5 @@
 //! Netlists, read in pieces.
-ghost use Rattle.std.specs.Prelude.{◌≡◌, ◌++◌, ◌∷◌, [], ℕ, List, None, All, IfOk, IsSome, OnOk};
+ghost use Rattle.std.specs.Prelude.{◌≡◌, ◌++◌, ◌∷◌, ◌<◌, [], ℕ, List, None, All, IfOk, IsSome, OnOk, length};
 ghost use Rattle.cvc_base.specs.Answers.{Gives, IfAt};
 ghost use Rattle.cvc_cdl.specs.Builder.{named_top};
 ghost use Rattle.cvc_cdl.specs.File.{file_of};
@@ -118,6 +118,33 @@ pub(crate) fn netlist_of(
     reader.finish(top)
 }
 
+// Feeds the reader with what is left of the open file, up to its end or to the first fault that is decided. The bytes come through the buffer.
+fn feed_through<S: Shelf>(
+    shelf: &mut S,
+    reader: &mut NetlistReader,
+    buf: &mut [u8],
+) -> Result<(), LoadFault>
+    requires open { IsSome (S.standing shelf.old) }
+    requires fresh { HasRead reader.old [] }
+    requires room { 0 < length buf.old }
+    ensures still { IsSome (S.standing shelf.new) }
+    ensures files { S.files shelf.new ≡ S.files shelf.old }
+    ensures counts { NoneFalls (S.faults shelf.old) (S.faults shelf.new) }
+    ensures read { OnOk result (HasReadRest (S.standing shelf.old) reader.new) }
+    ensures decided { IfLoadAt result (λ fault. OfRest (S.standing shelf.old) (IsFaultOf fault)) }
+    ensures cause { UnreadOnlyWhere result (RoseFor (S.standing shelf.old) (S.faults shelf.old) (S.faults shelf.new)) }
+{
+    'pieces: loop {
+        let Ok(count) = shelf.read(buf) else {
+            return Err(LoadFault::Read);
+        };
+        if count == 0 {
+            return Ok(());
+        }
+        reader.feed(&buf[..count])?;
+    }
+}
+
 // Feeds the reader with what is left of the open file, up to its end or to the first fault that is decided.
 fn feed_rest<S: Shelf>(shelf: &mut S, reader: &mut NetlistReader) -> Result<(), LoadFault>
     requires open { IsSome (S.standing shelf.old) }
@@ -129,16 +156,8 @@ fn feed_rest<S: Shelf>(shelf: &mut S, reader: &mut NetlistReader) -> Result<(), 
     ensures decided { IfLoadAt result (λ fault. OfRest (S.standing shelf.old) (IsFaultOf fault)) }
     ensures cause { UnreadOnlyWhere result (RoseFor (S.standing shelf.old) (S.faults shelf.old) (S.faults shelf.new)) }
 {
-    let mut buf = [0; PIECE];
-    'pieces: loop {
-        let Ok(count) = shelf.read(&mut buf) else {
-            return Err(LoadFault::Read);
-        };
-        if count == 0 {
-            return Ok(());
-        }
-        reader.feed(&buf[..count])?;
-    }
+    let mut buf = vec![in reader.alloc; 0; PIECE]?;
+    feed_through(shelf, reader, buf.as_mut_slice())
 }
 
 // Feeds the reader with the file of this name.

@@ -4,7 +4,7 @@ use Rattle.cvc_run.specs.Reader.{IsDecided}
 use Rattle.cvc_run.specs.Rests.{IsFaultOf, OfRest}
 use Rattle.cvc_run.proofs.Loading.{at_load, reader_at_weaker}
 use Rattle.cvc_run.proofs.Netlists.{counted, fed_decided, fed_more, longer}
-use Rattle.cvc_run.proofs.netlist.feed_rest.Goals as goal
+use Rattle.cvc_run.proofs.netlist.feed_through.Goals as goal
 
 pub returns-in_err-feed-clause-decided : goal.returns-in_err-feed-clause-decided
 returns-in_err-feed-clause-decided g c =
@@ -23,6 +23,7 @@ pieces-preserved g c =
     let fed = c.pieces.invariant.fed in
     let piece = take c.in-Ok.count c.read.new.buf in
     record {
+      room = omega (arith, c.read.auto.buf, c.pieces.invariant.room);
       files = c.in-Ok.ensures.files ∙ c.pieces.invariant.files;
       counts = λ name. omega (arith, c.pieces.invariant.counts name, c.in-Ok.ensures.counts name);
       fed = fed_more (g.S.Shelf.standing c.args.shelf.now) (g.S.Shelf.standing c.pieces.shelf) (g.S.Shelf.standing c.read.new.self) c.pieces.reader c.feed.new.self piece fed c.in-Ok.ensures.bytes.0
