@@ -91,3 +91,20 @@ ok_in_step {A} status r l x P loaded e h = subst (λ (v : Result A Refusal). IfO
 
 pub loads_both : {A B : Type 0} (view : A → B) (r : Result A Refusal) (l : Result A LoadFault) (w : Result B Fault) → l ≡ as_load r → IfOk r (λ x. w ≡ Ok (view x)) → IfReaderAt r (λ fault. w ≡ Err fault) → Loads view l w
 loads_both {A} view r l w loaded ok at = subst (λ (v : Result A LoadFault). Loads view v w) (sym loaded) (loads_gives view r w (gives_both view r w ok at))
+
+-- bytes that are there have no read fault
+unread_here : {A : Type 0} (r : Result A Refusal) → UnreadOnlyWhere (as_load r) ⊥
+unread_here (Ok x) = tt
+unread_here (Err (refusals.At fault)) = tt
+unread_here (Err refusals.NoMemory) = tt
+
+pub unread_step : {A : Type 0} (B : Type 0) (status : Status) (r : Result A Refusal) (l : Result A LoadFault) (x : RunStop) → l ≡ as_load r → Err x ≡ as_step status l → ReadOnlyWhere {A = B} (Err x) ⊥
+unread_step {A} B status r l x loaded e = step_failed B status l x e ⊥ ⊥ (λ h. h) (subst (λ (v : Result A LoadFault). UnreadOnlyWhere v ⊥) (sym loaded) (unread_here r))
+
+-- what is said of a load is said of its step
+step_ok : {A : Type 0} (status : Status) (l : Result A LoadFault) (x : A) → Ok x ≡ as_step status l → l ≡ Ok x
+step_ok status (Ok y) x e = let same : x ≡ y = cc in ap Ok (sym same)
+step_ok status (Err fault) x e = cc
+
+pub ok_of_step : {A : Type 0} (status : Status) (l : Result A LoadFault) (x : A) (P : A → Type 0) → Ok x ≡ as_step status l → IfOk l P → P x
+ok_of_step {A} status l x P e h = subst (λ (v : Result A LoadFault). IfOk v P) (step_ok status l x e) h

@@ -2,7 +2,8 @@ use Rattle.std.proofs.Common.{All, None}
 use Rattle.std.proofs.lemmas.Result.{err_from_is_err_and}
 use Rattle.cvc_power.specs.Power.{IsOrdered, power_of}
 use Rattle.cvc_run.specs.declared.status.Status.TheVariants.{Power}
-use Rattle.cvc_run.proofs.Loading.{loads_both, ok_in_step}
+use Rattle.cvc_run.specs.declared.bound.Bound.{Bound}
+use Rattle.cvc_run.proofs.Loading.{loads_both, ok_in_step, unread_step}
 use Rattle.cvc_run.proofs.Runs.{parts_of, spans_of, whole_of}
 use Rattle.cvc_run.proofs.Steps.{bound_at_design, bound_at_power, bound_read, says_accepted, says_stopped}
 use Rattle.cvc_run.proofs.bound.bind_texts.Goals as goal
@@ -32,3 +33,8 @@ returns-clause-said c =
     (says_accepted spans_of Power c.as_load.result (power_of texts.power) c.in_ok-power.power c.in_ok-power.ensures
     (loads_both spans_of c.read_power.result c.as_load.result (power_of texts.power) c.as_load.ensures (rw c.bytes.ensures at c.read_power.ensures.rows) (rw c.bytes.ensures at c.read_power.ensures.fault)))
     c.bind_design.result c.bind_design.ensures.said
+
+pub returns-in_err-power-clause-unread : goal.returns-in_err-power-clause-unread
+returns-in_err-power-clause-unread c =
+    let p = err_from_is_err_and c.from_residual-in_err-power.result c.from_residual-in_err-power.ensures.1 in
+    rw (p.1, p.2) (unread_step Bound Power c.read_power.result c.as_load.result c.in_err-power.field-0.0 c.as_load.ensures c.in_err-power.ensures)

@@ -4,7 +4,8 @@ use Rattle.cvc_model.specs.Bindable.{AreBindable}
 use Rattle.cvc_model.specs.Models.{models_of}
 use Rattle.cvc_run.specs.Said.{flat_of_file}
 use Rattle.cvc_run.specs.declared.status.Status.TheVariants.{Models}
-use Rattle.cvc_run.proofs.Loading.{loads_both, loads_gives, ok_in_step}
+use Rattle.cvc_run.specs.declared.stages.Design.{Design}
+use Rattle.cvc_run.proofs.Loading.{loads_both, loads_gives, ok_in_step, unread_step}
 use Rattle.cvc_run.proofs.Runs.{list_of, rows_of, text_read, text_stops_at_models, text_stops_at_netlist}
 use Rattle.cvc_run.proofs.stages.design_of_texts.Goals as goal
 
@@ -31,3 +32,8 @@ returns-clause-design c =
 
 pub returns-clause-bindable : goal.returns-clause-bindable
 returns-clause-bindable c = ok_in_step Models c.read_models.result c.as_load-2.result c.in_ok-models.models AreBindable c.as_load-2.ensures c.in_ok-models.ensures c.read_models.ensures.bindable
+
+pub returns-in_err-models-clause-unread : goal.returns-in_err-models-clause-unread
+returns-in_err-models-clause-unread c =
+    let p = err_from_is_err_and c.from_residual-in_err-models.result c.from_residual-in_err-models.ensures.1 in
+    rw (p.1, p.2) (unread_step Design Models c.read_models.result c.as_load-2.result c.in_err-models.field-0.0 c.as_load-2.ensures c.in_err-models.ensures)

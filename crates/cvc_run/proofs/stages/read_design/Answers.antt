@@ -1,8 +1,9 @@
 use Rattle.std.proofs.lemmas.Result.{err_from_is_err_and}
 use Rattle.cvc_cdl.specs.Builder.{named_top}
+use Rattle.cvc_model.specs.Bindable.{AreBindable}
 use Rattle.cvc_run.specs.declared.stages.Design.{Design}
 use Rattle.cvc_run.specs.declared.status.Status.TheVariants.{Models}
-use Rattle.cvc_run.proofs.Loading.{step_failed}
+use Rattle.cvc_run.proofs.Loading.{ok_of_step, step_failed}
 use Rattle.cvc_run.proofs.Runs.{both_read, models_failed, stops_at_models, stops_at_netlist}
 use Rattle.cvc_run.proofs.stages.read_design.Goals as goal
 
@@ -32,3 +33,6 @@ pub returns-clause-design : goal.returns-clause-design
 returns-clause-design g c =
     both_read (g.S.Shelf.files c.args.shelf.now) (named_top c.args.top) c.args.netlist.now c.args.models.now c.load_flat.result c.load_flat.ensures.flat c.in_ok-flat.flat c.in_ok-flat.ensures c.load_models.result
     (rw c.load_flat.ensures.shelf.files at c.load_models.ensures.rows) c.in_ok-models.models c.in_ok-models.ensures
+
+pub returns-clause-bindable : goal.returns-clause-bindable
+returns-clause-bindable g c = ok_of_step Models c.load_models.result c.in_ok-models.models AreBindable c.in_ok-models.ensures c.load_models.ensures.bindable
