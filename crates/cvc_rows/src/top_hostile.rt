@@ -127,9 +127,9 @@ fn fault_of_the_first_piece(rt: HostRuntime) -> Result<(), Fail> {
 fn most_workers_without_a_device(rt: HostRuntime) -> Result<(), Fail> {
     let alloc = rt.alloc();
     let mut shelf = MemShelf::new(alloc);
-    for name in [b"n", b"m", b"p"] {
-        shelf.add(name, b"")?;
-    }
+    shelf.add(b"n", b"")?;
+    shelf.add(b"m", b"")?;
+    shelf.add(b"p", b"")?;
     let words = texts_of(alloc, &[b"check", b"n", b"m", b"p", b"workers=64"])?;
     let text = b"CVC report\ntop - devices 0 nets 0 declared 0\nerrors 0\n";
     expect_words(&rt, alloc, &words, &mut shelf, ROOM, 0, text)?;
