@@ -1,5 +1,5 @@
 //! Where a worker looks for a device.
-ghost use Rattle.std.specs.Prelude.{◌≡◌, ◌<◌, ◌+◌, ◌*◌, ◌/◌, ◌%◌, ◌⊎◌, length, IfSome};
+ghost use Rattle.std.specs.Prelude.{◌≡◌, ◌<◌, ◌≤◌, ◌+◌, ◌*◌, ◌/◌, ◌%◌, ◌⊎◌, length, IfSome};
 
 use crossbeam_deque::{Steal, Stealer, Worker};
 use cvc_base::DevId;
@@ -18,14 +18,23 @@ pub(crate) struct Task {
     pub(crate) source: Source,
 }
 
+/// Where a worker's share of the devices begins, and so where the share of the one before it ends.
+pub(crate) fn share_start(devices: u32, workers: u32, worker: u32) -> u32
+    requires some { 0 < workers }
+    requires worker { worker ≤ workers }
+    ensures { result ≡ worker * devices / workers }
+{
+    (u64::from(worker) * u64::from(devices) / u64::from(workers)) as u32
+}
+
 /// Where a worker's scan begins: at its own share of the devices, and one further with each turn.
 fn scan_start(devices: u32, workers: u32, worker: u32, turn: u64) -> u32
     requires some { 0 < devices }
     requires worker { worker < workers }
     ensures { result ≡ (worker * devices / workers + turn) % devices }
 {
+    let own = u64::from(share_start(devices, workers, worker));
     let devices = u64::from(devices);
-    let own = u64::from(worker) * devices / u64::from(workers);
     ((own + turn % devices) % devices) as u32
 }
 

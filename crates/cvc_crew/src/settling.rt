@@ -60,7 +60,7 @@ pub fn settle_tally<R: Threads + Wait + Sync, G: Gate>(
     ensures { IfOk result (λ r. IsLeast circuit.now r.0) }
 {
     let mut intervals = vec![in alloc; UNKNOWN; circuit.nets() as usize]?;
-    let mut deques = Deques::new(alloc, workers)?;
+    let mut deques = Deques::new(alloc, circuit.devices(), workers)?;
     let (field, hand) = Field::new(alloc, circuit, workers)?;
     let hand = work_with(rt, circuit, &field, hand, gate, &mut deques);
     let closed = field.close(hand);

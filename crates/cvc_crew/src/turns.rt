@@ -16,12 +16,39 @@ use cvc_base::DevId;
 use cvc_field::{Field, Hand, Tray, Turn};
 use std::sync::Wait;
 
+/// The most rounds of a pause.
+const LONGEST_PAUSE: u32 = 1024;
+
+/// The pauses of a worker that finds nothing to do: each has twice as many rounds as the one before it, up to the longest.
+#[derive(Drop)]
+struct Pauses {
+    rounds: u32,
+}
+
 /// What a worker does after a turn.
 #[derive(Clone, Copy)]
 pub(crate) enum Next {
     GoOn,
     Pause,
     End,
+}
+
+impl Pauses {
+    fn new() -> Pauses {
+        Pauses { rounds: 1 }
+    }
+
+    fn reset(&mut self) {
+        self.rounds = 1;
+    }
+
+    fn pause(&mut self) {
+        let backoff = Backoff::new();
+        for _ in 0..self.rounds {
+            backoff.snooze();
+        }
+        self.rounds = self.rounds.saturating_mul(2).min(LONGEST_PAUSE);
+    }
 }
 
 fn after(turn: Turn) -> Next
@@ -117,14 +144,14 @@ pub(crate) fn make_turns<R: Wait, G: Gate>(
     let mut hand = hand;
     let mut tray = Tray::new();
     let mut turn: u64 = 0;
-    let backoff = Backoff::new();
+    let mut pauses = Pauses::new();
     for _ in rt.forever() {
         shared.gate.before(worker, turn);
         let next = make_turn(shared, worker, turn, member, &mut hand, &mut tray);
         push_all(&mut member.tasks, &tray);
         match next {
-            Next::GoOn => backoff.reset(),
-            Next::Pause => backoff.snooze(),
+            Next::GoOn => pauses.reset(),
+            Next::Pause => pauses.pause(),
             Next::End => return hand,
         }
         turn = turn.saturating_add(1);

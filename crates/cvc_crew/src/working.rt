@@ -72,7 +72,7 @@ pub fn work<R: Threads + Wait + Sync, G: Gate>(
     ensures unworked { IfErr result (λ e. e.hand ≡ hand) }
 {
     let workers = workers_for(hand.numbers());
-    let Ok(mut deques) = Deques::new(alloc, workers) else {
+    let Ok(mut deques) = Deques::new(alloc, circuit.devices(), workers) else {
         return Err(Unworked { hand });
     };
     Ok(work_with(rt, circuit, field, hand, gate, &mut deques))
