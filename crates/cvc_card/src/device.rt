@@ -44,26 +44,27 @@ fn has_value(letter: Letter) -> bool
     matches!(letter, Letter::R | Letter::C | Letter::L)
 }
 
-fn first_number<'a>(tokens: &[&'a [u8]]) -> Option<&'a [u8]>
-    ensures { option_map bytes_of result ≡ find is_number (texts_held tokens.now) }
-{
-    for token in tokens {
-        if is_number(token) {
-            return Some(token);
-        }
-    }
-    None
+/// The first number and the first word among tokens.
+#[derive(Clone, Copy)]
+struct Firsts<'a> {
+    number: Option<&'a [u8]>,
+    word: Option<&'a [u8]>,
 }
 
-fn first_word<'a>(tokens: &[&'a [u8]]) -> Option<&'a [u8]>
-    ensures { option_map bytes_of result ≡ find is_word (texts_held tokens.now) }
+fn firsts_of<'a>(tokens: &[&'a [u8]]) -> Firsts<'a>
+    ensures number { option_map bytes_of result.number ≡ find is_number (texts_held tokens.now) }
+    ensures word { option_map bytes_of result.word ≡ find is_word (texts_held tokens.now) }
 {
+    let mut number = None;
+    let mut word = None;
     for token in tokens {
-        if !is_number(token) {
-            return Some(token);
+        if is_number(token) {
+            number = number.or(Some(*token));
+        } else {
+            word = word.or(Some(*token));
         }
     }
-    None
+    Firsts { number, word }
 }
 
 fn last_word<'a>(tokens: &[&'a [u8]]) -> Option<&'a [u8]>
@@ -78,43 +79,50 @@ fn last_word<'a>(tokens: &[&'a [u8]]) -> Option<&'a [u8]>
     last
 }
 
-/// The model among the plain tokens after the nets, where the card names none.
-fn model_among<'a>(letter: Letter, more: &[&'a [u8]]) -> Option<&'a [u8]>
-    ensures { option_map bytes_of result ≡ model_among letter (texts_held more.now) }
-{
-    if let Letter::Q = letter {
-        return last_word(more);
-    }
-    if !has_value(letter) {
-        return first_token(more);
-    }
-    if let Some(word) = first_word(more) {
-        return Some(word);
-    }
-    Some(letter_name(letter))
+/// What the plain tokens after the nets say: the model, where the card names none, and the value of a resistor, a capacitor or an inductor.
+#[derive(Drop)]
+struct Tail<'a> {
+    model: Option<&'a [u8]>,
+    value: Option<NamedValue<'a>>,
 }
 
-fn chosen_model<'a>(letter: Letter, named: Option<&'a [u8]>, more: &[&'a [u8]]) -> Option<&'a [u8]>
-    ensures { option_map bytes_of result ≡ or_else (option_map bytes_of named.entry) (model_among letter (texts_held more.now)) }
+/// The value of a device that may have one, under the letter's name.
+fn named_value<'a>(letter: Letter, number: Option<&'a [u8]>) -> Option<NamedValue<'a>>
+    ensures { option_map pair_of result ≡ option_map (λ value. record { name = letter_name letter; value = value.now }) number.entry }
 {
-    match named {
-        Some(model) => Some(model),
-        None => model_among(letter, more),
-    }
-}
-
-/// The value of a resistor, a capacitor or an inductor, under the letter's name.
-fn value_among<'a>(letter: Letter, more: &[&'a [u8]]) -> Option<NamedValue<'a>>
-    ensures { option_to_list (option_map pair_of result) ≡ value_pairs letter (texts_held more.now) }
-{
-    if !has_value(letter) {
-        return None;
-    }
-    let value = first_number(more)?;
+    let value = number?;
     Some(NamedValue {
         name: letter_name(letter),
         value,
     })
+}
+
+fn tail_of<'a>(letter: Letter, more: &[&'a [u8]]) -> Tail<'a>
+    ensures model { option_map bytes_of result.model ≡ model_among letter (texts_held more.now) }
+    ensures value { option_to_list (option_map pair_of result.value) ≡ value_pairs letter (texts_held more.now) }
+{
+    if has_value(letter) {
+        let firsts = firsts_of(more);
+        return Tail {
+            model: Some(firsts.word.unwrap_or(letter_name(letter))),
+            value: named_value(letter, firsts.number),
+        };
+    }
+    let model = match letter {
+        Letter::Q => last_word(more),
+        _ => first_token(more),
+    };
+    Tail { model, value: None }
+}
+
+/// The model that a card names, or else the one among its plain tokens.
+fn chosen_model<'a>(named: Option<&'a [u8]>, among: Option<&'a [u8]>) -> Option<&'a [u8]>
+    ensures { option_map bytes_of result ≡ or_else (option_map bytes_of named.entry) (option_map bytes_of among.entry) }
+{
+    match named {
+        Some(model) => Some(model),
+        None => among,
+    }
 }
 
 /// The device of this letter, name and line that has these parts. It is short where a net or the model is missing.
@@ -134,7 +142,8 @@ pub(crate) fn device_card(
         return Err(Stop::At(Cause::ShortCard));
     }
     let (nets, more) = plain.split_at(count);
-    let Some(model) = chosen_model(letter, parts.model, more) else {
+    let tail = tail_of(letter, more);
+    let Some(model) = chosen_model(parts.model, tail.model) else {
         return Err(Stop::At(Cause::ShortCard));
     };
     Ok(Card::Device(DeviceCard {
@@ -142,7 +151,7 @@ pub(crate) fn device_card(
         name: Text::of(alloc, name)?,
         nets: copied_texts(alloc, nets)?,
         model: Text::of(alloc, model)?,
-        pairs: copied_pairs(alloc, value_among(letter, more), parts.pairs.as_slice())?,
+        pairs: copied_pairs(alloc, tail.value, parts.pairs.as_slice())?,
         line,
     }))
 }
