@@ -1,17 +1,15 @@
 -- What holds of each item of a list, and names by their places.
 use Rattle.std.proofs.Common.{◌≡◌, ℕ, zero, suc, ◌<◌, ◌≤◌, ◌&&◌, ◌||◌, Bool, true, false, cond, List, [], ◌∷◌, ◌++◌, length, map, get_or, take, Some, None, refl, sym, ap, subst, ◌∙◌, length-append, arith}
-use Rattle.std.specs.Prelude.{All, Vec, nat_lt, position, if◌then◌else◌}
+use Rattle.std.specs.Prelude.{All, nat_lt, position}
 use Rattle.std.specs.List.{list_any, position_or_len}
 use Rattle.std.specs.Str.{bytes_eq}
 use Rattle.std.specs.Cmp.Lexicographic.{bytes_decides}
-use Rattle.std.specs.declared.alloc.Global.{Global}
 use Rattle.std.proofs.Math.Seq.{get_or-append_seam}
 use Rattle.std.proofs.lemmas.Bool.{false≢true, lt-ltb}
 use Rattle.std.proofs.lemmas.List.Sums.{fails_before_first, passes_at_first, position_or_len_is}
 use Rattle.std.proofs.lemmas.Bool.Decides.{nat_tests}
-use Rattle.std.proofs.lemmas.List.{get_or-take, get_or_append_left, length-map, length-take-le, map-append}
-use Rattle.cvc_cdl.specs.Building.{is_among}
-use Rattle.cvc_names.specs.Names.{items_of, place_of, with_name}
+use Rattle.std.proofs.lemmas.List.{get_or-take, get_or_append_left, length-map, length-take-le}
+use Rattle.cvc_names.specs.Names.{place_of}
 use Rattle.cvc_flat.specs.Tables.{text}
 
 pub all_head : {X : Type 0} (P : X → Type 0) (x : X) (xs : List X) → All P (x ∷ xs) → P x
@@ -68,24 +66,6 @@ place_map p f xs = λ i. cond (nat_lt (first_map p f xs i) (length-map xs f i)) 
 pub any_map : {A B : Type 0} (p : B → Bool) (f : A → B) (xs : List A) → list_any p (map f xs) ≡ list_any (λ x. p (f x)) xs
 any_map p f [] = refl
 any_map p f (x ∷ xs) = ap (λ b. p (f x) || b) (any_map p f xs)
-
-pub kept_name : (keys : List (Vec ℕ Global)) (names : List (List ℕ)) (name : List ℕ) → map items_of keys ≡ names → list_any (λ (k : Vec ℕ Global). bytes_eq name k.items) keys ≡ true → names ≡ with_name names name
-kept_name keys names name is has =
-    let among : is_among names name ≡ true = ap (λ ns. is_among ns name) (sym is) ∙ any_map (bytes_eq name) items_of keys ∙ has in
-    sym (ap (λ (b : Bool). if b then names else names ++ name ∷ []) among)
-
-insert_is : (keys : List (Vec ℕ Global)) (copy : Vec ℕ Global) (b : Bool) → map items_of (if b then keys else keys ++ copy ∷ []) ≡ (if b then map items_of keys else map items_of keys ++ copy.items ∷ [])
-insert_is keys copy true = refl
-insert_is keys copy false = map-append items_of keys (copy ∷ [])
-
-pub inserted_name : (keys more : List (Vec ℕ Global)) (names : List (List ℕ)) (copy : Vec ℕ Global) (name : List ℕ) → map items_of keys ≡ names → copy.items ≡ name
-    → more ≡ (if list_any (λ (k : Vec ℕ Global). bytes_eq copy.items k.items) keys then keys else keys ++ copy ∷ []) → map items_of more ≡ with_name names name
-inserted_name keys more names copy name is same e =
-    ap (map items_of) e
-    ∙ insert_is keys copy (list_any (λ (k : Vec ℕ Global). bytes_eq copy.items k.items) keys)
-    ∙ ap (λ (b : Bool). if b then map items_of keys else map items_of keys ++ copy.items ∷ []) (sym (any_map (bytes_eq copy.items) items_of keys))
-    ∙ ap (λ (ns : List (List ℕ)). with_name ns copy.items) is
-    ∙ ap (with_name names) same
 
 pub text_at_place : (names : List (List ℕ)) (name : List ℕ) (k : ℕ) → place_of names name ≡ Some k → text names k ≡ name
 text_at_place names name k e = by (nat_lt (position_or_len (bytes_eq name) names) (length names)) refl e

@@ -1,9 +1,8 @@
 -- A plan as it grows: what is kept of a card stays as it is.
 use Rattle.std.proofs.Common.{◌≡◌, ℕ, zero, suc, ◌+◌, ◌<◌, ◌||◌, Bool, true, false, List, [], ◌∷◌, ◌++◌, length, map, get_or, take, refl, sym, ap, subst, ◌∙◌, append_assoc, length-append, arith}
 use Rattle.std.proofs.Common.{cond}
-use Rattle.std.specs.declared.alloc.Global.{Global}
-use Rattle.std.specs.Prelude.{All, IfSome, IsTrue, Result, Ok, Err, IfOk, MatchOption, Vec, Option, Some, None, find, nat_lt, position, slice_get, if◌then◌else◌}
-use Rattle.std.specs.List.{AllByRecursion, AllZip, IsDistinct, list_any, position_or_len}
+use Rattle.std.specs.Prelude.{All, IfSome, IsTrue, Result, Ok, Err, IfOk, MatchOption, Option, Some, None, find, nat_lt, position, slice_get, if◌then◌else◌}
+use Rattle.std.specs.List.{AllZip, list_any, position_or_len}
 use Rattle.std.specs.Str.{bytes_eq}
 use Rattle.std.specs.Cmp.Lexicographic.{bytes_decides}
 use Rattle.std.proofs.Math.Seq.{get_or-append_seam}
@@ -36,7 +35,7 @@ use Rattle.cvc_flat.specs.declared.rows.DevicePart.{DevicePart}
 use Rattle.cvc_flat.specs.declared.rows.InstancePart.{InstancePart}
 use Rattle.cvc_flat.specs.Flat.{Opening, opening_at}
 use Rattle.cvc_flat.specs.Instances.{cell_for, no_cell}
-use Rattle.cvc_names.specs.Names.{AreApart, items_of, place_of, with_name}
+use Rattle.cvc_names.specs.Names.{place_of, with_name}
 use Rattle.cvc_flat.specs.Names.{Grows}
 use Rattle.cvc_flat.specs.Nets.{Link, global_names, link_of as link_in}
 use Rattle.cvc_flat.specs.Pins.{ArePins, ArePortPlans, IsPin, IsPortPlan, net_given}
@@ -244,26 +243,6 @@ none_found p xs e = find_at p xs ∙ slice_get_past xs (position_or_len p xs) (n
 pub cell_found : (cells : List Cell) (name : List ℕ) (o : Option ℕ) → o ≡ place_of (map name_of_cell cells) name → MatchOption o (cell_named cells name ≡ None) (λ k. cell_named cells name ≡ Some (get_or cells k no_cell))
 cell_found cells name None e = none_found (λ (c : Cell). bytes_eq name c.name) cells (sym (place_map (bytes_eq name) name_of_cell cells) ∙ sym e)
 cell_found cells name (Some k) e = (first_found (λ (c : Cell). bytes_eq name c.name) cells k no_cell (sym (place_map (bytes_eq name) name_of_cell cells) ∙ sym e)).1
-
--- keys that differ are texts that differ
-abbrev same_key : Vec ℕ Global → Vec ℕ Global → Bool
-same_key a b = bytes_eq a.items b.items
-
-differs_at : (key : Vec ℕ Global) (keys : List (Vec ℕ Global)) (j : ℕ) → AllByRecursion (λ k. same_key key k ≡ false) keys → j < length (map items_of keys) → key.items ≡ get_or (map items_of keys) j [] → ⊥
-differs_at key [] j h b e = absurd (omega arith)
-differs_at key (k ∷ keys) zero h b e = false≢true (sym h.0 ∙ (bytes_decides key.items k.items).1 e)
-differs_at key (k ∷ keys) (suc j) h b e = differs_at key keys j h.1 (omega arith) e
-
-pub keys_apart : (keys : List (Vec ℕ Global)) → IsDistinct same_key keys → AreApart (map items_of keys)
-unfolding IsDistinct
-keys_apart [] h = λ i j a b e. absurd (omega arith)
-keys_apart (k ∷ keys) h = at (keys_apart keys h.1)
-  where
-    at : AreApart (map items_of keys) → (i j : ℕ) → i < length (map items_of (k ∷ keys)) → j < length (map items_of (k ∷ keys)) → get_or (map items_of (k ∷ keys)) i [] ≡ get_or (map items_of (k ∷ keys)) j [] → i ≡ j
-    at later zero zero a b e = refl
-    at later zero (suc j) a b e = absurd (differs_at k keys j h.0 (omega arith) e)
-    at later (suc i) zero a b e = absurd (differs_at k keys i h.0 (omega arith) (sym e))
-    at later (suc i) (suc j) a b e = ap suc (later i j (omega arith) (omega arith) e)
 
 -- one more opening
 pub opening_more : (a b : List (List ℕ)) (os more : List OpeningPlan) (o : OpeningPlan) (done : List Opening) (next : Opening) → Grows a b → All (λ (x : OpeningPlan). x.name < length a) os
