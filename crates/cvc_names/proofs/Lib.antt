@@ -1,2 +1,4 @@
+pub mod Chaining
 pub mod Tables
+pub mod Lying
 pub mod Repeats

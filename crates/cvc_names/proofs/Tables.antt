@@ -1,15 +1,18 @@
--- Names by the keys of a set that holds them.
-use Rattle.std.proofs.Common.{◌≡◌, ℕ, zero, suc, ◌<◌, ◌||◌, Bool, true, false, cond, List, [], ◌∷◌, ◌++◌, length, map, get_or, Vec, Some, None, refl, sym, ap, ◌∙◌, arith}
-use Rattle.std.specs.Prelude.{nat_lt, position, if◌then◌else◌}
-use Rattle.std.specs.List.{list_any, position_or_len, AllByRecursion, IsDistinct}
+-- Names by their places: in the keys of a set, and in a list of names that are apart.
+use Rattle.std.proofs.Common.{◌≡◌, ℕ, ◌+◌, ◌<◌, ◌≤◌, ◌||◌, ◌⊎◌, Bool, true, false, cond, List, [], ◌∷◌, ◌++◌, length, map, get_or, Option, Some, None, refl, sym, ap, ◌∙◌, arith, inl, inr}
+use Rattle.std.specs.Prelude.{is_some, nat_lt, position, if◌then◌else◌}
+use Rattle.std.specs.List.{list_any, position_or_len}
 use Rattle.std.specs.Str.{bytes_eq}
 use Rattle.std.specs.Cmp.Lexicographic.{bytes_decides}
-use Rattle.std.specs.declared.alloc.Global.{Global}
-use Rattle.std.proofs.lemmas.List.Sums.{passes_at_first}
-use Rattle.std.proofs.lemmas.Bool.{false≢true}
+use Rattle.std.proofs.lemmas.Bool.{cases_lt, false≢true}
 use Rattle.std.proofs.lemmas.Bool.Decides.{nat_tests}
-use Rattle.std.proofs.lemmas.List.{length-map, map-append}
-use Rattle.cvc_names.specs.Names.{AreApart, is_among, items_of, name_at, place_of, with_name}
+use Rattle.std.proofs.Math.Seq.{get_or-append_seam}
+use Rattle.std.proofs.lemmas.List.{get_or_append_left, get_or-map, length-append, length-map}
+use Rattle.std.proofs.lemmas.List.Folds.{list_any_at, list_any_none}
+use Rattle.std.proofs.lemmas.List.Quantifiers.{position-Some}
+use Rattle.std.proofs.lemmas.List.Sums.{fails_before_first, position_or_len_is}
+use Rattle.cvc_names.specs.Chains.{IsFound, text_hash}
+use Rattle.cvc_names.specs.Names.{AreApart, is_among, name_at, place_of, with_name}
 
 -- a test of what each item holds
 pub any_map : {A B : Type 0} (p : B → Bool) (f : A → B) (xs : List A) → list_any p (map f xs) ≡ list_any (λ x. p (f x)) xs
@@ -31,47 +34,120 @@ module _ {K : Type 0} (f : K → List ℕ) (keys : List K) (names : List (List �
   pub place : (name : List ℕ) → position (λ k. bytes_eq name (f k)) keys ≡ place_of names name
   place name = sym (place_map (bytes_eq name) f keys) ∙ ap (λ ns. place_of ns name) is
 
-  pub kept : (name : List ℕ) → list_any (λ k. bytes_eq name (f k)) keys ≡ true → names ≡ with_name names name
-  kept name has = sym (ap (λ (b : Bool). if b then names else names ++ name ∷ []) (sym (among name) ∙ has))
+-- ## The place of a name
 
-  insert_is : (key : K) (b : Bool) → map f (if b then keys else keys ++ key ∷ []) ≡ (if b then map f keys else map f keys ++ f key ∷ [])
-  insert_is key true = refl
-  insert_is key false = map-append f keys (key ∷ [])
+refuted : (b : Bool) → (b ≡ true → ⊥) → b ≡ false
+refuted true never = absurd (never refl)
+refuted false never = refl
 
-  -- a key is inserted
-  pub inserted : (more : List K) (key : K) (name : List ℕ) → f key ≡ name → more ≡ (if list_any (λ k. bytes_eq (f key) (f k)) keys then keys else keys ++ key ∷ []) → map f more ≡ with_name names name
-  inserted more key name same e =
-      ap (map f) e
-      ∙ insert_is key (list_any (λ k. bytes_eq (f key) (f k)) keys)
-      ∙ (λ i. if among (f key) i then is i else is i ++ f key ∷ [])
-      ∙ ap (with_name names) same
+module _ (p : List ℕ → Bool) (names : List (List ℕ)) where
+  abbrev PassesAt : ℕ → Bool → Type 0
+  PassesAt k b = p (name_at names k) ≡ b
 
-pub name_at_place : (names : List (List ℕ)) (name : List ℕ) (k : ℕ) → place_of names name ≡ Some k → name_at names k ≡ name
-name_at_place names name k e = by (nat_lt (position_or_len (bytes_eq name) names) (length names)) refl e
+  place_is : (k : ℕ) → k < length names → PassesAt k true → ((j : ℕ) → j < k → PassesAt j false) → position p names ≡ Some k
+  place_is k below here before =
+      let first : position_or_len p names ≡ k = position_or_len_is p names k [] (omega arith) before (λ _. here) in
+      let test : nat_lt k (length names) ≡ true = grind (arith, nat_tests) in
+      ap (λ n. cond (nat_lt n (length names)) (Some n) None) first ∙ ap (λ (b : Bool). cond b (Some k) None) test
+
+  no_place : ((j : ℕ) → j < length names → PassesAt j false) → position p names ≡ None
+  no_place none =
+      let first : position_or_len p names ≡ length names = position_or_len_is p names (length names) [] (omega arith) none (λ below. absurd (omega arith)) in
+      let test : nat_lt (length names) (length names) ≡ false = grind (arith, nat_tests) in
+      ap (λ n. cond (nat_lt n (length names)) (Some n) None) first ∙ ap (λ (b : Bool). cond b (Some (length names)) None) test
+
+  none_passes : position p names ≡ None → (k : ℕ) (d : List ℕ) → k < length names → p (get_or names k d) ≡ false
+  none_passes e k d below = by (nat_lt (position_or_len p names) (length names)) refl e
+    where
+      by : (b : Bool) → nat_lt (position_or_len p names) (length names) ≡ b → cond b (Some (position_or_len p names)) None ≡ None → p (get_or names k d) ≡ false
+      by true test is = cc
+      by false test is = fails_before_first p names k d (grind (arith, nat_tests))
+
+-- ## A name that is there, and one that isn't
+
+module _ (names : List (List ℕ)) (name : List ℕ) where
+  module _ (k : ℕ) (is : place_of names name ≡ Some k) where
+    pub name_at_place : name_at names k ≡ name
+    name_at_place = sym ((bytes_decides name (name_at names k)).0 (position-Some (bytes_eq name) names k [] is).1)
+
+    pub among_at_place : is_among names name ≡ true
+    among_at_place = list_any_at (bytes_eq name) names k [] (position-Some (bytes_eq name) names k [] is).0 (position-Some (bytes_eq name) names k [] is).1
+
+    pub names_kept : names ≡ with_name names name
+    names_kept = ap (λ (b : Bool). if b then names else names ++ name ∷ []) (sym among_at_place)
+
+  module _ (is : place_of names name ≡ None) where
+    pub not_among : is_among names name ≡ false
+    not_among = list_any_none (bytes_eq name) names (none_passes (bytes_eq name) names is)
+
+    pub names_more : names ++ name ∷ [] ≡ with_name names name
+    names_more = ap (λ (b : Bool). if b then names else names ++ name ∷ []) (sym not_among)
+
+    not_at : (k : ℕ) → k < length names → name_at names k ≡ name → ⊥
+    not_at k below same = false≢true (sym (none_passes (bytes_eq name) names is k [] below) ∙ (bytes_decides name (name_at names k)).1 (sym same))
+
+    pub apart_more : AreApart names → AreApart (names ++ name ∷ [])
+    apart_more apart i j i_below j_below same = by (cases_lt i (length names)) (cases_lt j (length names))
+      where
+        count : length (names ++ name ∷ []) ≡ length names + 1
+        count = length-append names (name ∷ [])
+
+        earlier : (k : ℕ) → k < length names → name_at (names ++ name ∷ []) k ≡ name_at names k
+        earlier k below = get_or_append_left names (name ∷ []) [] k below
+
+        last : (k : ℕ) → length names ≤ k → k < length (names ++ name ∷ []) → k ≡ length names
+        last k beyond below = omega (arith, count)
+
+        new : (k : ℕ) → k ≡ length names → name_at (names ++ name ∷ []) k ≡ name
+        new k at = ap (name_at (names ++ name ∷ [])) at ∙ get_or-append_seam names name [] []
+
+        by : (i < length names) ⊎ (length names ≤ i) → (j < length names) ⊎ (length names ≤ j) → i ≡ j
+        by (inl a) (inl b) = apart i j a b (sym (earlier i a) ∙ same ∙ earlier j b)
+        by (inl a) (inr b) = absurd (not_at i a (sym (earlier i a) ∙ same ∙ new j (last j b j_below)))
+        by (inr a) (inl b) = absurd (not_at j b (sym (earlier j b) ∙ sym same ∙ new i (last i a i_below)))
+        by (inr a) (inr b) = last i a i_below ∙ sym (last j b j_below)
+
+pub none_there : (names : List (List ℕ)) (name : List ℕ) → length names ≡ 0 → place_of names name ≡ None
+none_there names name none = no_place (bytes_eq name) names (λ j below. absurd (omega arith))
+
+pub among_is : (names : List (List ℕ)) (name : List ℕ) → is_among names name ≡ is_some (place_of names name)
+among_is names name = by (place_of names name) refl
   where
-    by : (b : Bool) → nat_lt (position_or_len (bytes_eq name) names) (length names) ≡ b → cond b (Some (position_or_len (bytes_eq name) names)) None ≡ Some k → name_at names k ≡ name
-    by true below is =
-        let at : position_or_len (bytes_eq name) names ≡ k = cc in
-        ap (name_at names) (sym at) ∙ sym ((bytes_decides name (get_or names (position_or_len (bytes_eq name) names) [])).0 (passes_at_first (bytes_eq name) names [] (grind (arith, nat_tests))))
-    by false below is = cc
+    by : (found : Option ℕ) → place_of names name ≡ found → is_among names name ≡ is_some found
+    by (Some k) is = among_at_place names name k is
+    by None is = not_among names name is
 
--- ## Keys that differ are names that differ
+-- ## A name by its hash
 
-abbrev same_key : Vec ℕ Global → Vec ℕ Global → Bool
-same_key a b = bytes_eq a.items b.items
+module _ (names : List (List ℕ)) (hashes : List ℕ) (hashed : hashes ≡ map text_hash names) (name : List ℕ) (Passes : ℕ → Bool → Type 0) (tells : (k : ℕ) (b : Bool) → k < length names → Passes k b → b ≡ bytes_eq (name_at names k) name) (hash : ℕ) (is : hash ≡ text_hash name) where
+  count : length hashes ≡ length names
+  count = ap length hashed ∙ length-map names text_hash
 
-differs_at : (key : Vec ℕ Global) (keys : List (Vec ℕ Global)) (j : ℕ) → AllByRecursion (λ k. same_key key k ≡ false) keys → j < length (map items_of keys) → key.items ≡ get_or (map items_of keys) j [] → ⊥
-differs_at key [] j h b e = absurd (omega arith)
-differs_at key (k ∷ keys) zero h b e = false≢true (sym h.0 ∙ (bytes_decides key.items k.items).1 e)
-differs_at key (k ∷ keys) (suc j) h b e = differs_at key keys j h.1 (omega arith) e
+  hash_is : (k : ℕ) → k < length names → get_or hashes k 0 ≡ text_hash (name_at names k)
+  hash_is k below = ap (λ (l : List ℕ). get_or l k 0) hashed ∙ get_or-map text_hash names k [] 0 below
 
-pub keys_apart : (keys : List (Vec ℕ Global)) → IsDistinct same_key keys → AreApart (map items_of keys)
-unfolding IsDistinct
-keys_apart [] h = λ i j a b e. absurd (omega arith)
-keys_apart (k ∷ keys) h = at (keys_apart keys h.1)
-  where
-    at : AreApart (map items_of keys) → (i j : ℕ) → i < length (map items_of (k ∷ keys)) → j < length (map items_of (k ∷ keys)) → get_or (map items_of (k ∷ keys)) i [] ≡ get_or (map items_of (k ∷ keys)) j [] → i ≡ j
-    at later zero zero a b e = refl
-    at later zero (suc j) a b e = absurd (differs_at k keys j h.0 (omega arith) e)
-    at later (suc i) zero a b e = absurd (differs_at k keys i h.0 (omega arith) (sym e))
-    at later (suc i) (suc j) a b e = ap suc (later i j (omega arith) (omega arith) e)
+  differs : (k : ℕ) → (name_at names k ≡ name → ⊥) → bytes_eq name (name_at names k) ≡ false
+  differs k never = refuted (bytes_eq name (name_at names k)) (λ same. never (sym ((bytes_decides name (name_at names k)).0 same)))
+
+  found_name : (k : ℕ) → IsFound hashes hash Passes (Some k) → (k < length names) × (name_at names k ≡ name)
+  found_name k h =
+      let below : k < length names = omega (arith, h.inside, count) in
+      (below, (bytes_decides (name_at names k) name).0 (sym (tells k true below h.passes)))
+
+  nowhere : IsFound hashes hash Passes None → place_of names name ≡ None
+  nowhere h =
+      no_place (bytes_eq name) names (λ j below. differs j (λ same.
+      let fails : false ≡ bytes_eq (name_at names j) name = tells j false below (h.none j (omega (arith, count)) (hash_is j below ∙ ap text_hash same ∙ sym is)) in
+      false≢true (fails ∙ (bytes_decides (name_at names j) name).1 same)))
+
+  pub found_among : (found : Option ℕ) → IsFound hashes hash Passes found → is_some found ≡ is_among names name
+  found_among (Some k) h =
+      let at = found_name k h in
+      sym (list_any_at (bytes_eq name) names k [] at.0 ((bytes_decides name (name_at names k)).1 (sym at.1)))
+  found_among None h = sym (not_among names name (nowhere h))
+
+  pub found_place : AreApart names → (found : Option ℕ) → IsFound hashes hash Passes found → found ≡ place_of names name
+  found_place apart (Some k) h =
+      let at = found_name k h in
+      sym (place_is (bytes_eq name) names k at.0 ((bytes_decides name (name_at names k)).1 (sym at.1)) (λ j before. differs j (λ same. let e : j ≡ k = apart j k (omega (arith, at.0)) at.0 (same ∙ sym at.1) in omega arith)))
+  found_place apart None h = sym (nowhere h)
