@@ -8,12 +8,12 @@ use Rattle.cvc_cdl.specs.declared.netlist.Global.{Global}
 use Rattle.cvc_cdl.specs.declared.netlist.Item.{Item}
 use Rattle.cvc_cdl.specs.declared.draft.Draft.{Draft as HeldDraft}
 use Rattle.cvc_cdl.specs.declared.draft.OpenCell.{OpenCell}
-use Rattle.cvc_cdl.specs.declared.level.Level.{Level as HeldLevel}
 use Rattle.cvc_base.specs.declared.stop.Stop.{Stop}
 use Rattle.cvc_base.specs.declared.stop.Stop.TheVariants as stops
-use Rattle.cvc_cdl.specs.Building.{is_among}
+use Rattle.std.proofs.lemmas.List.{map-append}
+use Rattle.cvc_cdl.specs.Building.{is_among, name_of_item}
 use Rattle.cvc_cdl.specs.Builder.{Draft}
-use Rattle.cvc_cdl.specs.Drafting.{Becomes, cell_held, cell_with_item, cell_with_pairs, cells_held, draft_held, globals_once, in_last, item_cause, level_with, name_held, names_here, names_once, with_globals, with_item, with_pairs}
+use Rattle.cvc_cdl.specs.Drafting.{Becomes, cell_held, cell_with_item, cell_with_pairs, cells_held, draft_held, globals_once, in_last, item_cause, item_names, name_held, names_here, names_once, with_globals, with_item, with_pairs}
 use Rattle.cvc_names.proofs.Repeats.{when, was_free, was_taken}
 
 pub in_last-push : (f : Cell → Cell) (cs : List Cell) (c : Cell) → in_last f (cs ++ c ∷ []) ≡ cs ++ f c ∷ []
@@ -31,19 +31,23 @@ module _ (d : HeldDraft) (cell : OpenCell) where
   last_changed : (f : Cell → Cell) (o : OpenCell) → cell_held o ≡ f (cell_held cell) → cells_held d.ended (Some o) ≡ in_last f (cells_held d.ended (Some cell))
   last_changed f o e = ap (λ c. d.ended ++ c ∷ []) e ∙ sym (in_last-push f d.ended (cell_held cell))
 
-  abbrev levelled : HeldLevel → OpenCell
+  abbrev levelled : List Item → OpenCell
   levelled l = record cell { level = l }
 
   abbrev paired : List Pair → OpenCell
   paired pairs = record cell { card = record cell.card { pairs = pairs } }
 
-  item_step : (item : Item) (l : HeldLevel) (r : Result (Unit {0}) Stop) → Becomes (item_cause cell.level.names item) (level_with cell.level item) l r
-      → Becomes (item_cause cell.level.names item) (with_item (Some cell.card.name) (draft_held (with_open cell)) item) (draft_held (with_open (levelled l))) r
-  item_step item l (Ok done) h = (
-    h.0,
-    ap (λ x. draft_held (with_open (levelled x))) h.1
-        ∙ ap (λ cs. record (draft_held (with_open (levelled (level_with cell.level item)))) { cells = cs }) (last_changed (cell_with_item item) (levelled (level_with cell.level item)) refl),
-  )
+  item_step : (item : Item) (l : List Item) (r : Result (Unit {0}) Stop) → Becomes (item_cause (item_names cell.level) item) (cell.level ++ item ∷ []) l r
+      → Becomes (item_cause (item_names cell.level) item) (with_item (Some cell.card.name) (draft_held (with_open cell)) item) (draft_held (with_open (levelled l))) r
+  item_step item l (Ok done) h =
+      let more : OpenCell = levelled (cell.level ++ item ∷ []) in (
+        h.0,
+        ap (λ x. draft_held (with_open (levelled x))) h.1
+            ∙ (λ i. record (draft_held (with_open more)) {
+              cells = last_changed (cell_with_item item) more refl i;
+              inner_names = map-append name_of_item cell.level (item ∷ []) i;
+            }),
+      )
   item_step item l (Err (stops.At cause)) h = h
   item_step item l (Err stops.NoMemory) h = tt
 
@@ -58,7 +62,7 @@ module _ (d : HeldDraft) (cell : OpenCell) where
   pair_step pairs list (Err stops.NoMemory) h = tt
 
   module _ (is : d.current ≡ Some cell) where
-    pub item_inside : (item : Item) (l : HeldLevel) (r : Result (Unit {0}) Stop) → Becomes (item_cause cell.level.names item) (level_with cell.level item) l r
+    pub item_inside : (item : Item) (l : List Item) (r : Result (Unit {0}) Stop) → Becomes (item_cause (item_names cell.level) item) (cell.level ++ item ∷ []) l r
         → Becomes (item_cause (names_here (option_map name_held d.current) (draft_held d)) item) (with_item (option_map name_held d.current) (draft_held d) item) (draft_held (with_open (levelled l))) r
     item_inside item l r h =
         let P : Option OpenCell → Type 0 = λ o.
@@ -72,6 +76,28 @@ module _ (d : HeldDraft) (cell : OpenCell) where
         let P : Option OpenCell → Type 0 = λ o.
         Becomes None (with_pairs (option_map name_held o) (draft_held (record d { current = o })) pairs) (draft_held (with_open (paired list))) r in
         subst P (sym is) (pair_step pairs list r h)
+
+-- ## On the main level
+
+module _ (d : HeldDraft) (item : Item) where
+  abbrev with_main : List Item → HeldDraft
+  with_main l = record d { main = l }
+
+  main_step : (l : List Item) (r : Result (Unit {0}) Stop) → Becomes (item_cause (item_names d.main) item) (d.main ++ item ∷ []) l r → Becomes (item_cause (item_names d.main) item) (with_item None (draft_held d) item) (draft_held (with_main l)) r
+  main_step l (Ok done) h = (
+    h.0,
+    ap (λ x. draft_held (with_main x)) h.1 ∙ ap (λ names. record (draft_held (with_main (d.main ++ item ∷ []))) { names = names }) (map-append name_of_item d.main (item ∷ [])),
+  )
+  main_step l (Err (stops.At cause)) h = h
+  main_step l (Err stops.NoMemory) h = tt
+
+  pub item_outside : d.current ≡ None → (l : List Item) (r : Result (Unit {0}) Stop) → Becomes (item_cause (item_names d.main) item) (d.main ++ item ∷ []) l r
+      → Becomes (item_cause (names_here (option_map name_held d.current) (draft_held d)) item) (with_item (option_map name_held d.current) (draft_held d) item) (draft_held (with_main l)) r
+  item_outside is l r h =
+      let P : Option OpenCell → Type 0 = λ o.
+      let x = draft_held d in
+      Becomes (item_cause (names_here (option_map name_held o) x) item) (with_item (option_map name_held o) x item) (draft_held (with_main l)) r in
+      subst P (sym is) (main_step l r h)
 
 -- ## Global nets
 

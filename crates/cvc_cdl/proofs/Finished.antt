@@ -20,20 +20,20 @@ last_of-push (y ∷ z ∷ xs) x = last_of-push (z ∷ xs) x
 
 module _ (d : HeldDraft) (top : Option (List ℕ)) where
   ends_with : Option OpenCell → Option Fault
-  ends_with o = or_else (open_in (option_map name_held o) (cells_held d.ended o)) (cells_fault_in (cells_held d.ended o) (file_instances d.main.items (cells_held d.ended o) d.places.items) top)
+  ends_with o = or_else (open_in (option_map name_held o) (cells_held d.ended o)) (cells_fault_in (cells_held d.ended o) (file_instances d.main (cells_held d.ended o) d.places.items) top)
 
   pub open_fails : (o : OpenCell) → d.current ≡ Some o → (fault : Fault) → fault ≡ fault_at o.card.line OpenSubckt → draft_fault (draft_held d) top ≡ Some fault
   unfolding draft_fault ends_with
   open_fails o is fault same =
       ap ends_with is
-      ∙ ap (λ l. or_else (option_map (λ (c : Cell). fault_at c.line OpenSubckt) l) (cells_fault_in (cells_held d.ended (Some o)) (file_instances d.main.items (cells_held d.ended (Some o)) d.places.items) top)) (last_of-push d.ended (cell_held o))
+      ∙ ap (λ l. or_else (option_map (λ (c : Cell). fault_at c.line OpenSubckt) l) (cells_fault_in (cells_held d.ended (Some o)) (file_instances d.main (cells_held d.ended (Some o)) d.places.items) top)) (last_of-push d.ended (cell_held o))
       ∙ ap Some (sym same)
 
-  pub checked : d.current ≡ None → (cells : List Cell) (items : List Item) (places : List ℕ) → cells ≡ d.ended → items ≡ d.main.items → places ≡ d.places.items → (fault : Option Fault)
+  pub checked : d.current ≡ None → (cells : List Cell) (items : List Item) (places : List ℕ) → cells ≡ d.ended → items ≡ d.main → places ≡ d.places.items → (fault : Option Fault)
       → fault ≡ cells_fault_in cells (file_instances items cells places) top → draft_fault (draft_held d) top ≡ fault
   unfolding draft_fault ends_with
   checked is cells items places c i p fault same =
       ap ends_with is
-      ∙ ap (λ cs. cells_fault_in cs (file_instances d.main.items cs d.places.items) top) (append-nil d.ended ∙ sym c)
+      ∙ ap (λ cs. cells_fault_in cs (file_instances d.main cs d.places.items) top) (append-nil d.ended ∙ sym c)
       ∙ (λ j. cells_fault_in cells (file_instances (sym i j) cells (sym p j)) top)
       ∙ sym same

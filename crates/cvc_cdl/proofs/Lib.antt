@@ -1,3 +1,4 @@
+pub mod Levelled
 pub mod Drafts
 pub mod Placing
 pub mod Kept

@@ -12,6 +12,7 @@ use Rattle.cvc_card.specs.declared.card.Card.{Card}
 use Rattle.cvc_card.specs.declared.card.Card.TheVariants.{Device, Inst, Subckt, Ends, Global, Params, Ignored}
 use Rattle.cvc_card.specs.declared.card.CellCard.{CellCard}
 use Rattle.cvc_card.specs.Card.{has_twice}
+use Rattle.cvc_names.specs.Chains.{text_hash}
 use Rattle.cvc_cdl.specs.declared.netlist.Item.{Item}
 use Rattle.cvc_cdl.specs.declared.netlist.Item.TheVariants as items
 use Rattle.cvc_cdl.specs.Levels.{Entry, Level, level_behind, items_at, cell_cards}
@@ -24,6 +25,9 @@ fault_at line cause = record { place = record { file = Netlist; line = line }; c
 abbrev pub name_of_item : Item → List ℕ
 name_of_item (items.Device d) = d.name
 name_of_item (items.Inst x) = x.name
+
+abbrev pub hash_of_item : Item → ℕ
+hash_of_item item = text_hash (name_of_item item)
 
 -- an item of this name stands at the level
 abbrev pub is_taken : Level → List Entry → List ℕ → Bool

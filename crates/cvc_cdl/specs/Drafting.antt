@@ -17,7 +17,6 @@ use Rattle.cvc_cdl.specs.declared.netlist.Item.{Item}
 use Rattle.cvc_cdl.specs.declared.netlist.Item.TheVariants as items
 use Rattle.cvc_cdl.specs.declared.draft.Draft.{Draft as HeldDraft}
 use Rattle.cvc_cdl.specs.declared.draft.OpenCell.{OpenCell}
-use Rattle.cvc_cdl.specs.declared.level.Level.{Level as HeldLevel}
 use Rattle.cvc_base.specs.declared.stop.Stop.{Stop}
 use Rattle.cvc_base.specs.declared.stop.Stop.TheVariants as stops
 use Rattle.cvc_cdl.specs.Levels.{Level}
@@ -29,14 +28,17 @@ use Rattle.cvc_cdl.specs.Builder.{Draft}
 
 -- a cell that has no end yet, as it is so far
 abbrev pub cell_held : OpenCell → Cell
-cell_held o = record { name = o.card.name; ports = o.card.ports; pairs = o.card.pairs; items = o.level.items; line = o.card.line }
+cell_held o = record { name = o.card.name; ports = o.card.ports; pairs = o.card.pairs; items = o.level; line = o.card.line }
 
 abbrev pub name_held : OpenCell → List ℕ
 name_held o = o.card.name
 
+abbrev pub item_names : List Item → List (List ℕ)
+item_names items = map name_of_item items
+
 abbrev pub names_held : Option OpenCell → List (List ℕ)
 names_held None = []
-names_held (Some o) = o.level.names
+names_held (Some o) = item_names o.level
 
 abbrev pub cells_held : List Cell → Option OpenCell → List Cell
 cells_held ended current = ended ++ option_to_list (option_map cell_held current)
@@ -49,8 +51,8 @@ draft_held d = record {
   params = d.params;
   cells = cells_held d.ended d.current;
   cell_names = d.cell_names;
-  items = d.main.items;
-  names = d.main.names;
+  items = d.main;
+  names = item_names d.main;
   inner_names = names_held d.current;
   places = d.places.items;
 }
@@ -60,9 +62,6 @@ abbrev pub AreNamed : Draft → Type 0
 AreNamed d = d.cell_names ≡ map name_of_cell d.cells
 
 -- ## What a card changes
-
-abbrev pub level_with : HeldLevel → Item → HeldLevel
-level_with l item = record { items = l.items ++ item ∷ []; names = l.names ++ name_of_item item ∷ [] }
 
 -- the last cell changes
 abbrev pub in_last : (Cell → Cell) → List Cell → List Cell

@@ -50,12 +50,11 @@ impl OpenCell {
             pairs,
             line,
         } = card;
-        let Level { items, names: _ } = level;
         Cell {
             name,
             ports,
             pairs,
-            items,
+            items: level.into_items(),
             line,
         }
     }
@@ -150,7 +149,7 @@ impl Draft {
         if has_twice(self.alloc, card.ports.as_slice())? {
             return Err(Stop::At(Cause::TwicePort));
         }
-        self.places.push(self.main.items.len())?;
+        self.places.push(self.main.len())?;
         self.current = Some(OpenCell {
             card,
             level: Level::new(self.alloc),
@@ -213,12 +212,7 @@ impl Draft {
         ensures { IfOk result (λ netlist. netlist ≡ draft_netlist (draft_held self) (named_top top.entry)) }
     {
         let alloc = self.alloc;
-        let top = top_name(
-            alloc,
-            top,
-            self.main.items.as_slice(),
-            self.ended.as_slice(),
-        )?;
+        let top = top_name(alloc, top, self.main.as_slice(), self.ended.as_slice())?;
         let name = Text::of(alloc, b"")?;
         let Draft {
             alloc: _,
@@ -231,7 +225,6 @@ impl Draft {
             main,
             places: _,
         } = self;
-        let Level { items, names: _ } = main;
         Ok(Netlist {
             globals,
             params,
@@ -240,7 +233,7 @@ impl Draft {
                 name,
                 ports: Texts::new(alloc),
                 pairs: Pairs::new(alloc),
-                items,
+                items: main.into_items(),
                 line: 0,
             },
             top,
@@ -257,7 +250,7 @@ impl Draft {
             return Err(Refusal::At(fault));
         }
         let cells = self.ended.as_slice();
-        let items = self.main.items.as_slice();
+        let items = self.main.as_slice();
         match check(
             self.alloc,
             cells,
