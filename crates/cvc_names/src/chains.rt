@@ -120,7 +120,7 @@ impl Chains {
         self.hashes.len()
     }
 
-    /// Puts a place last, of this hash. Without memory, and where there are 2^32 - 1 places, the list stays as it was. As many places as there are take
+    /// Puts a place last, of this hash. Without memory, and where there are 2^32 - 1 places, the list stays as it was. All pushes together take
     /// time in proportion to their number.
     pub fn push(&mut self, hash: u32) -> Result<(), NoMemory>
         ensures ok { OnOk result (self.new ≡ self.old ++ hash ∷ []) }
