@@ -1,3 +1,5 @@
+pub mod Zips
+pub mod SameNames
 pub mod Levelled
 pub mod Drafts
 pub mod Placing

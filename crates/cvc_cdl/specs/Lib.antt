@@ -3,6 +3,7 @@ pub mod Netlist
 pub mod Building
 pub mod Ending
 pub mod WellFormed
+pub mod Instances
 pub mod Builder
 pub mod Drafting
 pub mod Text

@@ -11,6 +11,8 @@ use Rattle.cvc_card.specs.declared.card.DeviceCard.{DeviceCard}
 use Rattle.cvc_card.specs.Card.{net_count}
 use Rattle.cvc_cdl.specs.declared.netlist.Item.TheVariants as items
 use Rattle.cvc_cdl.specs.declared.netlist.Netlist.{Netlist}
+use Rattle.cvc_cdl.specs.Instances.{Instance, names_to}
+use Rattle.cvc_params.specs.Params.{params_in}
 use Rattle.cvc_flat.specs.declared.cards.Plan.{Plan}
 use Rattle.cvc_flat.specs.declared.plan.DevicePlan.{DevicePlan}
 use Rattle.cvc_flat.specs.declared.rows.DeviceRow.{DeviceRow}
@@ -19,10 +21,8 @@ use Rattle.cvc_flat.specs.declared.rows.InstanceRow.{InstanceRow}
 use Rattle.cvc_flat.specs.declared.rows.NetRow.{NetRow}
 use Rattle.cvc_flat.specs.declared.steps.Made.{Made}
 use Rattle.cvc_flat.specs.Flat.{FlatDevice, Placed, device_at as placed_at, devices_behind, instance_at, flat_device, instances_behind, net_id, nets_behind, nets_once, pins_of}
-use Rattle.cvc_flat.specs.Instances.{Instance, names_to}
 use Rattle.cvc_flat.specs.Making.{AddsDevice, NumbersPins, Shows, known_nets, tables_of}
 use Rattle.cvc_flat.specs.Nets.{Net, names_of, net_in, path_of as path_in}
-use Rattle.cvc_flat.specs.Params.{params_in}
 use Rattle.cvc_flat.specs.Planning.{IsDevicePlan}
 use Rattle.cvc_flat.specs.Sharing.{TakesGroup}
 use Rattle.cvc_flat.specs.Tables.{IsDevice, IsSound, Tables, Way, device_at, group_at, names_on, net_at, no_group, part_at, path_of, text, way_at, ways_of}

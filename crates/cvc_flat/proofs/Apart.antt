@@ -11,21 +11,13 @@ use Rattle.cvc_cdl.specs.declared.netlist.Item.{Item}
 use Rattle.cvc_cdl.specs.declared.netlist.Item.TheVariants as items
 use Rattle.cvc_cdl.specs.declared.netlist.Netlist.{Netlist}
 use Rattle.cvc_cdl.specs.Building.{name_of_item}
-use Rattle.cvc_flat.specs.Instances.{Instance, cell_at, names_to}
+use Rattle.cvc_cdl.specs.Instances.{Instance, cell_at, names_to}
+use Rattle.cvc_params.proofs.Each.{Each, each_append, each_map}
 use Rattle.cvc_flat.specs.Walk.{Visit, visits_at, walk}
 use Rattle.cvc_flat.specs.Flat.{instance_at, instances_behind}
 
 abbrev Names : Type 0
 Names = List (List ℕ)
-
--- it holds of each
-abbrev pub Each : {A : Type 0} → (A → Type 0) → List A → Type 0
-Each P [] = Unit {0}
-Each P (x ∷ xs) = P x × Each P xs
-
-each_append : {A : Type 0} (P : A → Type 0) (xs ys : List A) → Each P xs → Each P ys → Each P (xs ++ ys)
-each_append P [] ys a b = b
-each_append P (x ∷ xs) ys a b = (a.0, each_append P xs ys a.1 b)
 
 abbrev pub Different : Instance → Instance → Type 0
 Different p q = names_to p ≡ names_to q → ⊥
@@ -54,10 +46,6 @@ same_item up x y p q a b e =
     let lists : a.front ++ x ∷ up ≡ b.front ++ y ∷ up = sym a.split ∙ e ∙ b.split in
     let long : length a.front ≡ length b.front = omega (arith, length-append a.front (x ∷ up), length-append b.front (y ∷ up), ap length lists) in
     ap (head_or x) (sym (drop_front a.front x up) ∙ ap (drop (length a.front)) lists ∙ ap (λ k. drop k (b.front ++ y ∷ up)) long ∙ drop_front b.front y up)
-
-each_map : {A : Type 0} (P Q : A → Type 0) (xs : List A) → ((x : A) → P x → Q x) → Each P xs → Each Q xs
-each_map P Q [] f h = tt
-each_map P Q (x ∷ xs) f h = (f x h.0, each_map P Q xs f h.1)
 
 apart_append : (ps qs : List Instance) → AllApart ps → AllApart qs → Each (λ p. Each (Different p) qs) ps → AllApart (ps ++ qs)
 apart_append [] qs a b c = b

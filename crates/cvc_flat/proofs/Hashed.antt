@@ -7,13 +7,13 @@ use Rattle.std.specs.Cmp.Lexicographic.{bytes_decides}
 use Rattle.std.proofs.lemmas.Bool.{and_parts, eqb-true, false≢true, false_from_ne_true, le-ltb, lt-ltb}
 use Rattle.std.proofs.lemmas.List.{get_or-map, length-map, length-take-le, map-append, take_more}
 use Rattle.std.proofs.lemmas.List.Sums.{position_or_len_is}
+use Rattle.cvc_cdl.specs.Instances.{printed}
 use Rattle.cvc_flat.specs.declared.rows.InstancePart.{InstancePart}
 use Rattle.cvc_flat.specs.declared.rows.InstanceRow.{InstanceRow}
 use Rattle.cvc_flat.specs.declared.rows.NetRow.{NetRow}
 use Rattle.cvc_flat.specs.Finder.{net_hash, way_hash}
 use Rattle.cvc_flat.specs.FindNet.{printed_net}
 use Rattle.cvc_flat.specs.Hashes.{IsFound, empty_hash, hash_at, hash_of, hash_on}
-use Rattle.cvc_flat.specs.Instances.{printed}
 use Rattle.cvc_flat.specs.Nets.{name_of_link}
 use Rattle.cvc_flat.specs.Resolving.{ChildOf, IsChild, is_row}
 use Rattle.cvc_flat.specs.Tables.{IsTree, Way, link_at, names_on, net_at, no_row, text, way_at, way_in, ways_from, ways_of}

@@ -7,8 +7,10 @@ use Rattle.cvc_base.specs.declared.param.Pair.{Pair}
 use Rattle.cvc_card.specs.declared.card.InstCard.{InstCard}
 use Rattle.cvc_cdl.specs.declared.netlist.Netlist.{Netlist}
 use Rattle.cvc_cdl.specs.Ending.{instance_cause}
+use Rattle.cvc_cdl.specs.Instances.{Instance, cell_at, cell_for}
+use Rattle.cvc_params.specs.declared.level.Level.{Level}
+use Rattle.cvc_params.specs.Levels.{card_of}
 use Rattle.cvc_flat.specs.declared.cards.Plan.{Plan}
-use Rattle.cvc_flat.specs.declared.level.Level.{Level}
 use Rattle.cvc_flat.specs.declared.pins.Pin.{Pin}
 use Rattle.cvc_flat.specs.declared.pins.Pin.TheVariants as pins
 use Rattle.cvc_flat.specs.declared.pins.PortPlan.{PortPlan}
@@ -17,9 +19,7 @@ use Rattle.cvc_flat.specs.declared.rows.InstancePart.{InstancePart}
 use Rattle.cvc_flat.specs.declared.rows.InstanceRow.{InstanceRow}
 use Rattle.cvc_flat.specs.declared.rows.NetRow.{NetRow}
 use Rattle.cvc_flat.specs.declared.walk.Mark.{Mark}
-use Rattle.cvc_flat.specs.Instances.{Instance, cell_at, cell_for}
 use Rattle.cvc_flat.specs.Joining.{ArePorts, HasPorts}
-use Rattle.cvc_flat.specs.Levels.{card_of}
 use Rattle.cvc_flat.specs.Making.{AreNetsWithin, known_nets}
 use Rattle.cvc_flat.specs.Nets.{Net, global_names, link_of as link_in, names_of, net_in, net_of, net_within, path_of as path_in, top_net}
 use Rattle.cvc_flat.specs.Pins.{ArePins, ArePortPlans, IsPin, IsPinWithin, IsPlanWithin, IsPortPlan, net_given, no_net_row, pin_row, port_row}

@@ -16,11 +16,11 @@ use Rattle.cvc_card.specs.declared.card.Ports.TheVariants.{ByOrder, ByName}
 use Rattle.cvc_cdl.specs.declared.netlist.Cell.{Cell}
 use Rattle.cvc_cdl.specs.Building.{is_among}
 use Rattle.cvc_cdl.specs.Ending.{cell_cause, cell_named, connects_ports, instance_cause, ports_cause}
+use Rattle.cvc_cdl.specs.Instances.{no_cell}
 use Rattle.cvc_flat.specs.declared.pins.Pin.{Pin}
 use Rattle.cvc_flat.specs.declared.pins.Pin.TheVariants as pins
 use Rattle.cvc_flat.specs.declared.pins.PortPlan.{PortPlan}
 use Rattle.cvc_flat.specs.declared.pins.PortPlan.TheVariants as plans
-use Rattle.cvc_flat.specs.Instances.{no_cell}
 use Rattle.cvc_names.specs.Names.{AreApart, place_of}
 use Rattle.cvc_flat.specs.Names.{Grows}
 use Rattle.cvc_flat.specs.Nets.{Link, Path, connected, connections_of, names_of, net_of, net_within, paired, top_net}

@@ -23,6 +23,8 @@ use Rattle.cvc_cdl.specs.declared.netlist.Netlist.{Netlist}
 use Rattle.cvc_cdl.specs.Building.{is_among}
 use Rattle.cvc_cdl.specs.Ending.{cell_named}
 use Rattle.cvc_cdl.specs.Netlist.{name_of_cell}
+use Rattle.cvc_cdl.specs.Instances.{cell_for, no_cell}
+use Rattle.cvc_cdl.proofs.Zips.{zip_map}
 use Rattle.cvc_flat.specs.declared.cards.Cards.{Cards}
 use Rattle.cvc_flat.specs.declared.cards.CellPlan.{CellPlan}
 use Rattle.cvc_flat.specs.declared.cards.ItemPlan.{ItemPlan}
@@ -34,7 +36,6 @@ use Rattle.cvc_flat.specs.declared.plan.DevicePlan.{DevicePlan}
 use Rattle.cvc_flat.specs.declared.rows.DevicePart.{DevicePart}
 use Rattle.cvc_flat.specs.declared.rows.InstancePart.{InstancePart}
 use Rattle.cvc_flat.specs.Flat.{Opening, opening_at}
-use Rattle.cvc_flat.specs.Instances.{cell_for, no_cell}
 use Rattle.cvc_names.specs.Names.{place_of, with_name}
 use Rattle.cvc_flat.specs.Names.{Grows}
 use Rattle.cvc_flat.specs.Nets.{Link, global_names, link_of as link_in}
@@ -68,39 +69,6 @@ next_name xs i x t h e =
     ap (with_name (take i xs)) e
     ∙ ap (λ (b : Bool). if b then take i xs else take i xs ++ get_or xs i [] ∷ []) (not_before xs i t h)
     ∙ sym (take_more xs i [] h)
-
--- ## Two lists
-
-pub zip_at : {A B : Type 0} (R : A → B → Type 0) (xs : List A) (ys : List B) (i : ℕ) (d : A) (e : B) → AllZip R xs ys → i < length xs → R (get_or xs i d) (get_or ys i e)
-zip_at R [] ys i d e z h = absurd (omega arith)
-zip_at R (x ∷ xs) [] i d e z h = absurd z
-zip_at R (x ∷ xs) (y ∷ ys) zero d e z h = z.0
-zip_at R (x ∷ xs) (y ∷ ys) (suc i) d e z h = zip_at R xs ys i d e z.1 (omega arith)
-
-pub zip_length : {A B : Type 0} (R : A → B → Type 0) (xs : List A) (ys : List B) → AllZip R xs ys → length ys ≡ length xs
-zip_length R [] [] z = refl
-zip_length R [] (y ∷ ys) z = absurd z
-zip_length R (x ∷ xs) [] z = absurd z
-zip_length R (x ∷ xs) (y ∷ ys) z = ap suc (zip_length R xs ys z.1)
-
-pub zip_map : {A B : Type 0} (P Q : A → B → Type 0) (xs : List A) (ys : List B) → ((x : A) (y : B) → P x y → Q x y) → AllZip P xs ys → AllZip Q xs ys
-zip_map P Q [] [] f z = tt
-zip_map P Q [] (y ∷ ys) f z = absurd z
-zip_map P Q (x ∷ xs) [] f z = absurd z
-zip_map P Q (x ∷ xs) (y ∷ ys) f z = (f x y z.0, zip_map P Q xs ys f z.1)
-
-pub zip_push : {A B : Type 0} (R : A → B → Type 0) (xs : List A) (ys : List B) (x : A) (y : B) → AllZip R xs ys → R x y → AllZip R (xs ++ x ∷ []) (ys ++ y ∷ [])
-zip_push R [] [] x y z r = (r, tt)
-zip_push R [] (b ∷ ys) x y z r = absurd z
-zip_push R (a ∷ xs) [] x y z r = absurd z
-zip_push R (a ∷ xs) (b ∷ ys) x y z r = (z.0, zip_push R xs ys x y z.1 r)
-
--- one more of two lists, of which the first is known
-pub zip_more : {A B : Type 0} (R : A → B → Type 0) (xs : List A) (i : ℕ) (x : A) (old new : List B) (y : B) → i < length xs → x ≡ get_or xs i x → new ≡ old ++ y ∷ []
-    → AllZip R (take i xs) old → R x y → AllZip R (take (i + 1) xs) new
-zip_more R xs i x old new y h e is z r =
-    subst (λ l. AllZip R l new) (sym (take_more xs i x h ∙ ap (λ a. take i xs ++ a ∷ []) (sym e)))
-    (subst (AllZip R (take i xs ++ x ∷ [])) (sym is) (zip_push R (take i xs) old x y z r))
 
 -- ## Growing
 

@@ -6,20 +6,20 @@ use Rattle.cvc_cdl.specs.declared.netlist.Cell.{Cell}
 use Rattle.cvc_cdl.specs.declared.netlist.Item.{Item}
 use Rattle.cvc_cdl.specs.declared.netlist.Item.TheVariants as items
 use Rattle.cvc_cdl.specs.declared.netlist.Netlist.{Netlist}
+use Rattle.cvc_cdl.specs.Instances.{all_cells, cell_for, no_cell}
+use Rattle.cvc_cdl.proofs.Zips.{zip_at, zip_length}
+use Rattle.cvc_params.specs.declared.level.Level.{Level}
+use Rattle.cvc_params.specs.declared.pair_index.PairIndexes.{PairIndexes}
+use Rattle.cvc_params.specs.declared.pair_lists.CellLists.{CellLists}
+use Rattle.cvc_params.specs.declared.params.Sight.{Sight}
+use Rattle.cvc_params.specs.PairIndexes.{IsListed}
+use Rattle.cvc_params.specs.PairLists.{AreListed, IsCellListed, IsItemListed}
+use Rattle.cvc_params.specs.Sights.{IsSight}
 use Rattle.cvc_flat.specs.declared.cards.Plan.{Plan}
-use Rattle.cvc_flat.specs.declared.level.Level.{Level}
-use Rattle.cvc_flat.specs.declared.pair_index.PairIndexes.{PairIndexes}
-use Rattle.cvc_flat.specs.declared.pair_lists.CellLists.{CellLists}
-use Rattle.cvc_flat.specs.declared.params.Sight.{Sight}
 use Rattle.cvc_flat.specs.declared.rows.InstanceRow.{InstanceRow}
 use Rattle.cvc_flat.specs.declared.steps.Made.{Made}
 use Rattle.cvc_flat.specs.declared.walk.Mark.{Mark}
-use Rattle.cvc_flat.specs.Instances.{cell_for, no_cell}
-use Rattle.cvc_flat.specs.PairIndexes.{IsListed}
-use Rattle.cvc_flat.specs.PairLists.{AreListed, IsCellListed, IsItemListed}
-use Rattle.cvc_flat.specs.Planning.{IsInstPlan, all_cells}
-use Rattle.cvc_flat.specs.Sights.{IsSight}
-use Rattle.cvc_flat.proofs.Planned.{zip_at, zip_length}
+use Rattle.cvc_flat.specs.Planning.{IsInstPlan}
 use Rattle.cvc_flat.proofs.States.{IsState, here, levels_long}
 
 -- a sight of the netlist, with all its lists

@@ -7,7 +7,7 @@ use Rattle.std.proofs.Math.Dec.{eqb-suc-zero}
 use Rattle.std.proofs.Math.Seq.{drop-append_seam}
 use Rattle.std.proofs.lemmas.Bool.{false≢true}
 use Rattle.std.proofs.lemmas.List.{append-nil, append_cancel_right, take-append-drop}
-use Rattle.cvc_flat.specs.Instances.{printed}
+use Rattle.cvc_cdl.specs.Instances.{printed}
 use Rattle.cvc_flat.proofs.Resolving.{bool_same}
 
 -- a text that ends so is the text that its front is

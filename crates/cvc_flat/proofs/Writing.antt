@@ -5,11 +5,11 @@ use Rattle.std.specs.Io.KnownBytes.{append_known}
 use Rattle.std.proofs.lemmas.List.{append-nil, get_or-map, length-drop, map-append, take_all, take-append-drop}
 use Rattle.std.proofs.Math.Seq.{take-add}
 use Rattle.cvc_io.specs.declared.error.WriteFailed.{WriteFailed}
+use Rattle.cvc_cdl.specs.Instances.{printed}
 use Rattle.cvc_flat.specs.declared.rows.InstancePart.{InstancePart}
 use Rattle.cvc_flat.specs.Answers.{WritesPart, WritesText}
 use Rattle.cvc_flat.specs.Nets.{name_of_link}
 use Rattle.cvc_flat.specs.Tables.{link_at, link_of, names_on, no_link, text}
-use Rattle.cvc_flat.specs.Instances.{printed}
 
 pub twice_known : (before : Option (List ℕ)) (x y : List ℕ) → append_known (append_known before x) y ≡ append_known before (x ++ y)
 twice_known None x y = refl

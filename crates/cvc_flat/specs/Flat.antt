@@ -18,10 +18,10 @@ use Rattle.cvc_cdl.specs.declared.netlist.Item.TheVariants as items
 use Rattle.cvc_cdl.specs.declared.netlist.Netlist.{Netlist}
 use Rattle.cvc_cdl.specs.Building.{fault_at, cause_if, or_else}
 use Rattle.cvc_cdl.specs.Ending.{unless_fault}
-use Rattle.cvc_flat.specs.Instances.{Instance, cell_at, names_to}
+use Rattle.cvc_cdl.specs.Instances.{Instance, cell_at, names_to}
+use Rattle.cvc_params.specs.Params.{params_in}
+use Rattle.cvc_params.specs.Places.{has_loop}
 use Rattle.cvc_flat.specs.Nets.{Net, Path, same_net, top_net, path_of, global_names, net_in}
-use Rattle.cvc_flat.specs.Params.{params_in}
-use Rattle.cvc_flat.specs.Places.{has_loop}
 use Rattle.cvc_flat.specs.Walk.{Visit, walk}
 
 -- ## Nets, each once

@@ -1,7 +1,7 @@
 -- What a flat list in memory shows: the flat list, and for each device the number of the list of parameters that it shares with others of its model.
 use Rattle.std.specs.Prelude.{◌≡◌, ℕ, ◌<◌, List, [], length, slice_index, slice_index_or}
 use Rattle.cvc_card.specs.declared.card.Letter.TheVariants.{M}
-use Rattle.cvc_flat.specs.Instances.{printed}
+use Rattle.cvc_cdl.specs.Instances.{printed}
 use Rattle.cvc_flat.specs.Nets.{Net, top_net}
 use Rattle.cvc_flat.specs.Flat.{FlatDevice, FlatList}
 

@@ -1,9 +1,6 @@
-pub mod Instances
 pub mod Nets
 pub mod Walk
 pub mod Left
-pub mod Params
-pub mod Places
 pub mod Flat
 pub mod FindNet
 pub mod Answers
@@ -15,13 +12,7 @@ pub mod Finder
 pub mod Resolving
 pub mod Pins
 pub mod Plans
-pub mod Levels
 pub mod Planning
 pub mod Making
 pub mod Joining
-pub mod PairIndexes
-pub mod PairLists
-pub mod Seen
-pub mod Plain
-pub mod Sights
 pub mod Sharing

@@ -11,7 +11,7 @@ use Rattle.cvc_card.specs.declared.card.Ports.TheVariants.{ByOrder, ByName}
 use Rattle.cvc_cdl.specs.declared.netlist.Netlist.{Netlist}
 use Rattle.cvc_cdl.specs.Netlist.{name_of_global}
 use Rattle.cvc_cdl.specs.Building.{is_among}
-use Rattle.cvc_flat.specs.Instances.{Instance, cell_for, same_names}
+use Rattle.cvc_cdl.specs.Instances.{Instance, cell_for, same_names}
 
 -- the names on the way to an instance, its own first, and a name there
 pub record Net : Type 0 where

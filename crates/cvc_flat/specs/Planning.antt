@@ -1,6 +1,5 @@
--- The plan of a walk: of each card of a netlist what is kept of it, with its names by their numbers, and for each cell its items in order. All cells
--- are the netlist's, and its main level behind them.
-use Rattle.std.specs.Prelude.{◌≡◌, ℕ, ◌^◌, ◌<◌, ◌≤◌, List, [], ◌∷◌, ◌++◌, All, length, map, take, slice_index_or}
+-- The plan of a walk: of each card of a netlist what is kept of it, with its names by their numbers, and for each cell its items in order.
+use Rattle.std.specs.Prelude.{◌≡◌, ℕ, ◌^◌, ◌<◌, ◌≤◌, List, [], ◌++◌, All, length, map, take, slice_index_or}
 use Rattle.std.specs.List.{AllZip}
 use Rattle.cvc_card.specs.declared.card.DeviceCard.{DeviceCard}
 use Rattle.cvc_card.specs.declared.card.InstCard.{InstCard}
@@ -9,6 +8,7 @@ use Rattle.cvc_cdl.specs.declared.netlist.Global.{Global as GlobalNet}
 use Rattle.cvc_cdl.specs.declared.netlist.Item.{Item}
 use Rattle.cvc_cdl.specs.declared.netlist.Item.TheVariants as items
 use Rattle.cvc_cdl.specs.declared.netlist.Netlist.{Netlist}
+use Rattle.cvc_cdl.specs.Instances.{all_cells, cell_at, cell_for, no_cell}
 use Rattle.cvc_flat.specs.declared.cards.CellPlan.{CellPlan}
 use Rattle.cvc_flat.specs.declared.cards.Cards.{Cards}
 use Rattle.cvc_flat.specs.declared.cards.ItemPlan.{ItemPlan}
@@ -20,16 +20,12 @@ use Rattle.cvc_flat.specs.declared.plan.DevicePlan.{DevicePlan}
 use Rattle.cvc_flat.specs.declared.rows.DevicePart.{DevicePart}
 use Rattle.cvc_flat.specs.declared.rows.InstancePart.{InstancePart}
 use Rattle.cvc_flat.specs.Flat.{Opening, opening_at}
-use Rattle.cvc_flat.specs.Instances.{cell_at, cell_for, no_cell}
 use Rattle.cvc_names.specs.Names.{AreApart}
 use Rattle.cvc_flat.specs.Names.{Grows}
 use Rattle.cvc_flat.specs.Nets.{global_names, link_of}
 use Rattle.cvc_flat.specs.Pins.{ArePins, ArePortPlans}
 use Rattle.cvc_flat.specs.Plans.{IsPlanOf}
 use Rattle.cvc_flat.specs.Tables.{IsPart, link_at, part_at, text}
-
-abbrev pub all_cells : Netlist → List Cell
-all_cells n = n.cells ++ n.main ∷ []
 
 -- ## What is kept of cards
 

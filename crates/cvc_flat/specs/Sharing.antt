@@ -8,10 +8,10 @@ use Rattle.cvc_cdl.specs.declared.netlist.Cell.{Cell}
 use Rattle.cvc_cdl.specs.declared.netlist.Item.{Item}
 use Rattle.cvc_cdl.specs.declared.netlist.Item.TheVariants as items
 use Rattle.cvc_cdl.specs.declared.netlist.Netlist.{Netlist}
+use Rattle.cvc_cdl.specs.Instances.{Instance}
+use Rattle.cvc_params.specs.Params.{params_in}
 use Rattle.cvc_flat.specs.declared.shared.CellGroups.{CellGroups}
 use Rattle.cvc_flat.specs.declared.rows.Group.{Group}
-use Rattle.cvc_flat.specs.Instances.{Instance}
-use Rattle.cvc_flat.specs.Params.{params_in}
 use Rattle.cvc_flat.specs.Tables.{group_at, text}
 
 -- the group has this model and, in every instance, the parameters of these pairs

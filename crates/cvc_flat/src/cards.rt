@@ -7,10 +7,10 @@ ghost use Rattle.cvc_cdl.specs.declared.netlist.Netlist.{Netlist};
 ghost use Rattle.cvc_cdl.specs.Ending.{cell_named, ports_cause};
 ghost use Rattle.cvc_cdl.specs.Netlist.{name_of_cell, name_of_global};
 ghost use Rattle.cvc_cdl.specs.WellFormed.{IsFormedItem, IsFormedLevel, IsWellFormed};
-ghost use Rattle.cvc_flat.specs.Instances.{cell_at, cell_for, no_cell};
+ghost use Rattle.cvc_cdl.specs.Instances.{all_cells, cell_at, cell_for, no_cell};
 ghost use Rattle.cvc_flat.specs.Names.{Grows};
 ghost use Rattle.cvc_flat.specs.Nets.{global_names as names_of_globals};
-ghost use Rattle.cvc_flat.specs.Planning.{AreCellPlans, AreSoundCards, CardsGrow, IsCellPlan, IsItemPlan, IsPlan, all_cells, opening_of, openings_at};
+ghost use Rattle.cvc_flat.specs.Planning.{AreCellPlans, AreSoundCards, CardsGrow, IsCellPlan, IsItemPlan, IsPlan, opening_of, openings_at};
 
 use crate::names::{narrow, number};
 use crate::pins::{PortPlan, port_names, port_plans};

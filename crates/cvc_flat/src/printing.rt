@@ -1,9 +1,9 @@
 //! Printed names in pieces.
 ghost use Rattle.std.specs.Prelude.{◌≡◌, ◌<◌, ◌≤◌, All, length};
 ghost use Rattle.std.specs.List.{flat_map};
+ghost use Rattle.cvc_cdl.specs.Instances.{printed};
 ghost use Rattle.cvc_flat.specs.FindNet.{printed_net};
 ghost use Rattle.cvc_flat.specs.Held.{device, net, printed_device};
-ghost use Rattle.cvc_flat.specs.Instances.{printed};
 ghost use Rattle.cvc_flat.specs.Tables.{IsTree, names_on, text, way_at, ways_of};
 
 use crate::flat::Flat;

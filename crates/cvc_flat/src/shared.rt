@@ -1,17 +1,16 @@
 //! The groups of devices that have one model and the same parameters.
 ghost use Rattle.std.specs.Prelude.{◌≡◌, ◌≤◌, IfOk, IfSome, is_none, length};
 ghost use Rattle.std.specs.List.{AllZip};
-ghost use Rattle.cvc_flat.specs.Levels.{instance_of};
-ghost use Rattle.cvc_flat.specs.Places.{has_loop};
-ghost use Rattle.cvc_flat.specs.Planning.{all_cells};
+ghost use Rattle.cvc_params.specs.Levels.{instance_of};
+ghost use Rattle.cvc_params.specs.Places.{has_loop};
+ghost use Rattle.cvc_params.specs.Sights.{IsSight, SeesTheSame};
+ghost use Rattle.cvc_cdl.specs.Instances.{all_cells};
 ghost use Rattle.cvc_flat.specs.Sharing.{HasNoGroups, IsGroupOf, TakesGroup};
-ghost use Rattle.cvc_flat.specs.Sights.{IsSight, SeesTheSame};
 
-use crate::params::Sight;
-use crate::plain::{are_plain, plain_params};
 use crate::rows::Group;
 use cvc_base::{NoMemory, Pairs};
 use cvc_cdl::{Cell, Netlist};
+use cvc_params::{Sight, are_plain, plain_params};
 use std::alloc::Global;
 
 // For each item of a cell the group that all devices of its card share, once there is one.

@@ -1,8 +1,8 @@
 //! Names printed by their parts.
 ghost use Rattle.std.specs.Prelude.{◌≡◌, ◌<◌, ◌≤◌, All, length};
 ghost use Rattle.cvc_io.specs.Causes.{HasCause};
+ghost use Rattle.cvc_cdl.specs.Instances.{printed};
 ghost use Rattle.cvc_flat.specs.Answers.{WritesText};
-ghost use Rattle.cvc_flat.specs.Instances.{printed};
 ghost use Rattle.cvc_flat.specs.Tables.{IsTree, names_on, text, way_at, ways_of};
 
 use crate::rows::{InstancePart, InstanceRow};

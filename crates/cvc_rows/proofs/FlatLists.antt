@@ -18,10 +18,10 @@ use Rattle.cvc_cdl.specs.Netlist.{mentions, each_once, cells_of, netlist_of}
 use Rattle.cvc_cdl.specs.Building.{cause_of, fault_at}
 use Rattle.cvc_cdl.specs.Ending.{instances, first_instance_fault, has_chain, is_endless, ending_fault}
 use Rattle.cvc_cdl.specs.File.{entries_from, entries_of, file_of, then_with}
-use Rattle.cvc_flat.specs.Instances.{printed}
+use Rattle.cvc_cdl.specs.Instances.{printed}
 use Rattle.cvc_flat.specs.Nets.{Net, net_of}
-use Rattle.cvc_flat.specs.Params.{last_text, value_in, params_in}
-use Rattle.cvc_flat.specs.Places.{comes_twice, places}
+use Rattle.cvc_params.specs.Params.{last_text, value_in, params_in}
+use Rattle.cvc_params.specs.Places.{comes_twice, places}
 use Rattle.cvc_flat.specs.Walk.{walk}
 use Rattle.cvc_flat.specs.Flat.{FlatDevice, FlatList, Limits, limits, nets_once, nets_behind, devices_behind, instances_behind, opening_fault, visit_fault, walk_fault, flat_fault, list_behind, flat_of}
 use Rattle.cvc_flat.specs.FindNet.{printed_net, net_named, find_net}

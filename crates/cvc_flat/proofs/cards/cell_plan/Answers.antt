@@ -1,10 +1,11 @@
 use Rattle.std.proofs.Common.{[], ◌∙◌, take, sym, subst, arith}
 use Rattle.std.specs.List.{AllZip}
 use Rattle.std.proofs.lemmas.List.{take_all}
+use Rattle.cvc_cdl.proofs.Zips.{zip_more}
 use Rattle.cvc_flat.specs.Planning.{IsItemPlan}
 use Rattle.cvc_flat.proofs.Growing.{grows_length}
 use Rattle.cvc_flat.proofs.Pinned.{front_stays}
-use Rattle.cvc_flat.proofs.Planned.{cards_none, cards_twice, items_stay, zip_more}
+use Rattle.cvc_flat.proofs.Planned.{cards_none, cards_twice, items_stay}
 use Rattle.cvc_flat.proofs.cards.cell_plan.Goals as goal
 
 pub loop-item-init : goal.loop-item-init

@@ -1,10 +1,12 @@
 use Rattle.std.proofs.Common.{[], ◌∙◌, take, sym, subst, arith}
 use Rattle.std.specs.List.{AllZip}
 use Rattle.std.proofs.lemmas.List.{take_all}
-use Rattle.cvc_flat.specs.Planning.{AreCellPlans, IsCellPlan, all_cells}
+use Rattle.cvc_cdl.specs.Instances.{all_cells}
+use Rattle.cvc_cdl.proofs.Zips.{zip_more, zip_push}
+use Rattle.cvc_flat.specs.Planning.{AreCellPlans, IsCellPlan}
 use Rattle.cvc_flat.proofs.Growing.{grows_length}
 use Rattle.cvc_flat.proofs.Pinned.{front_stays}
-use Rattle.cvc_flat.proofs.Planned.{cards_none, cards_twice, cells_stay, zip_more, zip_push}
+use Rattle.cvc_flat.proofs.Planned.{cards_none, cards_twice, cells_stay}
 use Rattle.cvc_flat.proofs.cards.cell_plans.Goals as goal
 
 pub loop-cell-init : goal.loop-cell-init

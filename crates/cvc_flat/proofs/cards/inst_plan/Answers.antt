@@ -1,6 +1,6 @@
 use Rattle.std.proofs.Common.{◌∷◌, [], length, get_or, take, List, ℕ, sym, ap, subst, ◌∙◌, length-append, arith}
 use Rattle.cvc_cdl.specs.declared.netlist.Cell.{Cell}
-use Rattle.cvc_flat.specs.Instances.{cell_for, no_cell}
+use Rattle.cvc_cdl.specs.Instances.{cell_for, no_cell}
 use Rattle.cvc_flat.specs.Nets.{connections_of}
 use Rattle.cvc_flat.specs.Pins.{ArePortPlans}
 use Rattle.cvc_flat.proofs.Pinned.{front_stays}

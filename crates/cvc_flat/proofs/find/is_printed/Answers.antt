@@ -1,7 +1,7 @@
 use Rattle.std.proofs.Common.{◌≡◌, ℕ, ◌+◌, ◌-◌, ◌<◌, ◌++◌, List, [], length, get_or, sym, ap, ◌∙◌, arith}
 use Rattle.std.specs.Prelude.{codes}
 use Rattle.std.specs.Str.{bytes_eq}
-use Rattle.cvc_flat.specs.Instances.{printed}
+use Rattle.cvc_cdl.specs.Instances.{printed}
 use Rattle.cvc_flat.specs.Nets.{name_of_link}
 use Rattle.cvc_flat.specs.Tables.{Way, link_at, names_on, no_row, way_at, way_in, ways_of}
 use Rattle.cvc_flat.proofs.Stripping.{empty_is, front_more, printed_split, strip_no, strip_yes}

@@ -1,7 +1,7 @@
 use Rattle.std.proofs.Common.{◌≡◌, ◌≤◌, [], length}
 use Rattle.std.specs.Str.{bytes_eq}
+use Rattle.cvc_cdl.specs.Instances.{printed}
 use Rattle.cvc_flat.specs.FindNet.{printed_net}
-use Rattle.cvc_flat.specs.Instances.{printed}
 use Rattle.cvc_flat.specs.Tables.{names_on, net_at, way_at, ways_of}
 use Rattle.cvc_flat.proofs.find.is_printed.Given as goal
 

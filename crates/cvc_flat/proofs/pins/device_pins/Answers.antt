@@ -1,10 +1,11 @@
 use Rattle.std.proofs.Common.{ℕ, List, [], length, take, sym, ap, subst, arith}
 use Rattle.std.specs.List.{AllZip}
 use Rattle.std.proofs.lemmas.List.{take_all}
+use Rattle.cvc_cdl.proofs.Zips.{zip_more}
 use Rattle.cvc_flat.specs.Pins.{ArePins, IsPin}
 use Rattle.cvc_flat.proofs.Growing.{grows_length, grows_none, grows_twice}
 use Rattle.cvc_flat.proofs.Pinned.{front_stays}
-use Rattle.cvc_flat.proofs.Planned.{pins_stay, zip_more}
+use Rattle.cvc_flat.proofs.Planned.{pins_stay}
 use Rattle.cvc_flat.proofs.pins.device_pins.Goals as goal
 
 pub loop-net-init : goal.loop-net-init

@@ -2,10 +2,11 @@ use Rattle.std.proofs.Common.{◌≡◌, ℕ, List, take, ap, subst, ◌∙◌}
 use Rattle.std.specs.Prelude.{Option}
 use Rattle.std.specs.Option.{option_map}
 use Rattle.std.specs.Borrow.{Bor}
+use Rattle.cvc_cdl.proofs.Zips.{zip_more}
 use Rattle.cvc_flat.specs.Pins.{IsPortPlan, net_given}
 use Rattle.cvc_flat.proofs.Growing.{grows_twice}
 use Rattle.cvc_flat.proofs.Pinned.{front_stays}
-use Rattle.cvc_flat.proofs.Planned.{port_plans_stay, zip_more}
+use Rattle.cvc_flat.proofs.Planned.{port_plans_stay}
 use Rattle.cvc_flat.proofs.pins.plans_by_name.Goals as goal
 
 abbrev text_of : Bor (List ℕ) → List ℕ

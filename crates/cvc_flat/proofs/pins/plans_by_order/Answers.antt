@@ -2,11 +2,12 @@ use Rattle.std.proofs.Common.{◌≡◌, ℕ, List, [], take, get_or, Some, sym,
 use Rattle.std.specs.Prelude.{Option}
 use Rattle.std.proofs.lemmas.List.{get_or_default}
 use Rattle.cvc_base.specs.declared.param.Pair.{Pair}
+use Rattle.cvc_cdl.proofs.Zips.{zip_more}
 use Rattle.cvc_flat.specs.Nets.{paired}
 use Rattle.cvc_flat.specs.Pins.{IsPortPlan, net_given}
 use Rattle.cvc_flat.proofs.Growing.{grows_twice}
 use Rattle.cvc_flat.proofs.Pinned.{front_stays, given_at}
-use Rattle.cvc_flat.proofs.Planned.{port_plans_stay, zip_more}
+use Rattle.cvc_flat.proofs.Planned.{port_plans_stay}
 use Rattle.cvc_flat.proofs.pins.plans_by_order.Goals as goal
 
 pub loop-place-preserved : goal.loop-place-preserved

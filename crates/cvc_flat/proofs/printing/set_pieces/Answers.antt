@@ -3,8 +3,8 @@ use Rattle.std.specs.Prelude.{All, codes}
 use Rattle.std.specs.List.{flat_map}
 use Rattle.std.proofs.lemmas.List.{append-nil}
 use Rattle.std.proofs.lemmas.List.Concat.{flat_map-append}
+use Rattle.cvc_cdl.specs.Instances.{printed}
 use Rattle.cvc_flat.specs.declared.rows.InstancePart.{InstancePart}
-use Rattle.cvc_flat.specs.Instances.{printed}
 use Rattle.cvc_flat.specs.Tables.{names_on, text, way_at, ways_of}
 use Rattle.cvc_flat.proofs.Lists.{all_front, all_last}
 use Rattle.cvc_flat.proofs.Ways.{all_on_way}

@@ -1,7 +1,7 @@
 use Rattle.std.proofs.Common.{◌≡◌, ◌+◌, ◌*◌, ◌≤◌, ◌<◌, ◌++◌, length}
 use Rattle.std.specs.Prelude.{All}
 use Rattle.std.specs.List.{flat_map}
-use Rattle.cvc_flat.specs.Instances.{printed}
+use Rattle.cvc_cdl.specs.Instances.{printed}
 use Rattle.cvc_flat.specs.Tables.{names_on, text, way_at, ways_of}
 use Rattle.cvc_flat.proofs.printing.set_pieces.Given as goal
 

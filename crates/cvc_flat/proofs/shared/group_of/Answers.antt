@@ -1,6 +1,6 @@
 use Rattle.std.proofs.Common.{ℕ, subst}
 use Rattle.std.specs.Prelude.{IfSome, Option}
-use Rattle.cvc_flat.specs.Levels.{instance_of}
+use Rattle.cvc_params.specs.Levels.{instance_of}
 use Rattle.cvc_flat.specs.Sharing.{IsGroupOf}
 use Rattle.cvc_flat.proofs.Sharing.{no_loop, takes_known}
 use Rattle.cvc_flat.proofs.shared.group_of.Goals as goal

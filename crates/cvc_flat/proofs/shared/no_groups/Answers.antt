@@ -1,10 +1,10 @@
 use Rattle.std.proofs.Common.{List, [], ◌∙◌, sym, subst, arith}
 use Rattle.std.specs.List.{AllZip}
 use Rattle.std.proofs.lemmas.List.{take_all}
+use Rattle.cvc_cdl.specs.Instances.{all_cells}
+use Rattle.cvc_cdl.proofs.Zips.{zip_more, zip_push}
 use Rattle.cvc_flat.specs.declared.shared.CellGroups.{CellGroups}
-use Rattle.cvc_flat.specs.Planning.{all_cells}
 use Rattle.cvc_flat.specs.Sharing.{HasNoGroups}
-use Rattle.cvc_flat.proofs.Planned.{zip_more, zip_push}
 use Rattle.cvc_flat.proofs.shared.no_groups.Goals as goal
 
 pub loop-cell-init : goal.loop-cell-init

@@ -1,7 +1,7 @@
 use Rattle.std.proofs.Common.{◌+◌, ◌*◌, ◌-◌, length}
 use Rattle.std.specs.Prelude.{reverse}
+use Rattle.cvc_cdl.specs.Instances.{all_cells}
 use Rattle.cvc_flat.specs.Joining.{ArePorts}
-use Rattle.cvc_flat.specs.Planning.{all_cells}
 use Rattle.cvc_flat.specs.Sharing.{AreShared}
 use Rattle.cvc_flat.proofs.Seen.{Sees}
 use Rattle.cvc_flat.proofs.States.{IsState}

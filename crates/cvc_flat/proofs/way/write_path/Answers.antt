@@ -3,8 +3,8 @@ use Rattle.std.specs.Prelude.{All, codes}
 use Rattle.std.specs.Io.KnownBytes.{append_known}
 use Rattle.std.proofs.lemmas.Bool.{false≢true}
 use Rattle.std.proofs.lemmas.Result.{err_from_is_err_and}
+use Rattle.cvc_cdl.specs.Instances.{printed}
 use Rattle.cvc_flat.specs.declared.rows.InstancePart.{InstancePart}
-use Rattle.cvc_flat.specs.Instances.{printed}
 use Rattle.cvc_flat.specs.Tables.{names_on, text, way_at, ways_of}
 use Rattle.cvc_flat.proofs.Lists.{all_front, all_last, empty_of}
 use Rattle.cvc_flat.proofs.Ways.{all_on_way}

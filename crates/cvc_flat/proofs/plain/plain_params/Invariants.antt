@@ -1,6 +1,0 @@
-use Rattle.std.proofs.Common.{take}
-use Rattle.cvc_flat.proofs.Plainly.{HaveParams}
-use Rattle.cvc_flat.proofs.plain.plain_params.Given as goal
-
-abbrev pub invariant-loop-pair : goal.invariant-loop-pair
-invariant-loop-pair l = HaveParams (take l.pair-index l.pairs) l.params

@@ -1,0 +1,14 @@
+pub mod Each
+pub mod Following
+pub mod Givens
+pub mod Pigeons
+pub mod Chains
+pub mod Loops
+pub mod Indexing
+pub mod Sighting
+pub mod Listing
+pub mod Sighted
+pub mod Plainly
+pub mod Seeing
+pub mod Listed
+pub mod Answering
