@@ -4,7 +4,7 @@ use Rattle.std.specs.Prelude.{Option, Some, None}
 use Rattle.std.specs.Option.{option_or, option_and_then}
 use Rattle.std.specs.Str.{bytes_eq}
 use Rattle.std.proofs.lemmas.List.Quantifiers.{position-Some}
-use Rattle.cvc_flat.specs.Nets.{Net, same_net, top_net}
+use Rattle.cvc_plan.specs.Nets.{Net, same_net, top_net}
 use Rattle.cvc_flat.specs.Flat.{FlatList}
 use Rattle.cvc_flat.specs.FindNet.{find_net, net_named, number_among, number_printed, pieces, printed_net}
 

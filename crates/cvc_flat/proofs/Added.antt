@@ -13,22 +13,23 @@ use Rattle.cvc_cdl.specs.declared.netlist.Item.TheVariants as items
 use Rattle.cvc_cdl.specs.declared.netlist.Netlist.{Netlist}
 use Rattle.cvc_cdl.specs.Instances.{Instance, names_to}
 use Rattle.cvc_params.specs.Params.{params_in}
-use Rattle.cvc_flat.specs.declared.cards.Plan.{Plan}
-use Rattle.cvc_flat.specs.declared.plan.DevicePlan.{DevicePlan}
+use Rattle.cvc_plan.specs.declared.cards.Plan.{Plan}
+use Rattle.cvc_plan.specs.declared.plan.DevicePlan.{DevicePlan}
+use Rattle.cvc_plan.specs.declared.rows.NetRow.{NetRow}
+use Rattle.cvc_plan.specs.Nets.{Net, names_of, net_in, path_of as path_in}
+use Rattle.cvc_plan.specs.Planning.{IsDevicePlan}
+use Rattle.cvc_plan.specs.Parts.{part_at, text}
+use Rattle.cvc_plan.proofs.Growing.{map_alike}
+use Rattle.cvc_plan.proofs.Lists.{all_cons, all_head, all_one, all_tail}
 use Rattle.cvc_flat.specs.declared.rows.DeviceRow.{DeviceRow}
 use Rattle.cvc_flat.specs.declared.rows.Group.{Group}
 use Rattle.cvc_flat.specs.declared.rows.InstanceRow.{InstanceRow}
-use Rattle.cvc_flat.specs.declared.rows.NetRow.{NetRow}
 use Rattle.cvc_flat.specs.declared.steps.Made.{Made}
 use Rattle.cvc_flat.specs.Flat.{FlatDevice, Placed, device_at as placed_at, devices_behind, instance_at, flat_device, instances_behind, net_id, nets_behind, nets_once, pins_of}
 use Rattle.cvc_flat.specs.Making.{AddsDevice, NumbersPins, Shows, known_nets, tables_of}
-use Rattle.cvc_flat.specs.Nets.{Net, names_of, net_in, path_of as path_in}
-use Rattle.cvc_flat.specs.Planning.{IsDevicePlan}
 use Rattle.cvc_flat.specs.Sharing.{TakesGroup}
-use Rattle.cvc_flat.specs.Tables.{IsDevice, IsSound, Tables, Way, device_at, group_at, names_on, net_at, no_group, part_at, path_of, text, way_at, ways_of}
+use Rattle.cvc_flat.specs.Tables.{IsDevice, IsSound, Tables, Way, device_at, group_at, names_on, net_at, no_group, path_of, way_at, ways_of}
 use Rattle.cvc_flat.specs.Walk.{Visit}
-use Rattle.cvc_flat.proofs.Growing.{map_alike}
-use Rattle.cvc_flat.proofs.Lists.{all_cons, all_head, all_one, all_tail}
 use Rattle.cvc_flat.proofs.Numbered.{AllBelow, below_more, ids_stay, once_more}
 use Rattle.cvc_flat.proofs.Once.{nets_next}
 use Rattle.std.proofs.lemmas.List.Elements.{filter_map-append}

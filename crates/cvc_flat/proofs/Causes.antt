@@ -14,9 +14,9 @@ use Rattle.cvc_cdl.specs.declared.netlist.Netlist.{Netlist}
 use Rattle.cvc_cdl.specs.Building.{cause_if, fault_at}
 use Rattle.cvc_cdl.specs.Instances.{Instance}
 use Rattle.cvc_params.specs.Places.{has_loop}
+use Rattle.cvc_plan.specs.Nets.{Net}
 use Rattle.cvc_flat.specs.Flat.{limits, nets_once, pins_of}
 use Rattle.cvc_flat.specs.Making.{device_cause_in}
-use Rattle.cvc_flat.specs.Nets.{Net}
 
 module _ (n : Netlist) (count : ℕ) (known : List Net) (p : Instance) (d : DeviceCard) (few : count < 500000) where
   behind_devices : device_cause_in limits n count known p d ≡ (if nat_lt 1000000 (length (nets_once known (pins_of n p d))) then Some TooManyNets else cause_if (has_loop n p d.pairs) ParamLoop)

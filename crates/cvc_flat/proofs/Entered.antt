@@ -10,21 +10,22 @@ use Rattle.cvc_cdl.specs.declared.netlist.Item.TheVariants as items
 use Rattle.cvc_cdl.specs.declared.netlist.Netlist.{Netlist}
 use Rattle.cvc_cdl.specs.Instances.{Instance, names_to}
 use Rattle.cvc_params.proofs.Each.{Each}
-use Rattle.cvc_flat.specs.declared.cards.Plan.{Plan}
+use Rattle.cvc_plan.specs.declared.cards.Plan.{Plan}
+use Rattle.cvc_plan.specs.declared.rows.InstancePart.{InstancePart}
+use Rattle.cvc_plan.specs.declared.rows.NetRow.{NetRow}
+use Rattle.cvc_plan.specs.Nets.{Path, link_of as link_in, names_of, path_of as path_in}
+use Rattle.cvc_plan.specs.Parts.{link_at, part_at, text}
+use Rattle.cvc_plan.proofs.Growing.{map_alike}
+use Rattle.cvc_plan.proofs.Lists.{all_one}
 use Rattle.cvc_flat.specs.declared.rows.DeviceRow.{DeviceRow}
-use Rattle.cvc_flat.specs.declared.rows.InstancePart.{InstancePart}
 use Rattle.cvc_flat.specs.declared.rows.InstanceRow.{InstanceRow}
-use Rattle.cvc_flat.specs.declared.rows.NetRow.{NetRow}
 use Rattle.cvc_flat.specs.declared.steps.Made.{Made}
 use Rattle.cvc_flat.specs.Flat.{device_at as placed_at, devices_behind, flat_device, instance_at, instances_behind, nets_behind, nets_once}
 use Rattle.cvc_flat.specs.Making.{Shows, tables_of}
-use Rattle.cvc_flat.specs.Nets.{Path, link_of as link_in, names_of, path_of as path_in}
-use Rattle.cvc_flat.specs.Tables.{AreWaysApart, IsDevice, IsNet, IsSound, Way, device_at, group_at, link_at, names_on, net_at, no_row, part_at, path_of, text, way_at, way_in, ways_from, ways_of}
+use Rattle.cvc_flat.specs.Tables.{AreWaysApart, IsDevice, IsNet, IsSound, Way, device_at, group_at, names_on, net_at, no_row, path_of, way_at, way_in, ways_from, ways_of}
 use Rattle.cvc_flat.specs.Walk.{Visit}
 use Rattle.cvc_flat.proofs.Added.{path_names}
 use Rattle.cvc_flat.proofs.Apart.{AllApart, Different}
-use Rattle.cvc_flat.proofs.Growing.{map_alike}
-use Rattle.cvc_flat.proofs.Lists.{all_one}
 use Rattle.cvc_flat.proofs.Once.{nets_next}
 use Rattle.cvc_flat.proofs.Resolving.{up_to_more}
 use borrow.Author.Count.{below_more}

@@ -12,19 +12,20 @@ use Rattle.cvc_base.specs.declared.param.Pair.{Pair}
 use Rattle.cvc_cdl.specs.Building.{is_among}
 use Rattle.cvc_cdl.specs.Instances.{same_names}
 use Rattle.cvc_cdl.proofs.SameNames.{names_same, names_true}
-use Rattle.cvc_flat.specs.declared.rows.Connection.{Connection}
-use Rattle.cvc_flat.specs.declared.rows.InstancePart.{InstancePart}
+use Rattle.cvc_plan.specs.declared.rows.Connection.{Connection}
+use Rattle.cvc_plan.specs.declared.rows.InstancePart.{InstancePart}
+use Rattle.cvc_plan.specs.declared.rows.NetRow.{NetRow}
+use Rattle.cvc_plan.specs.Nets.{Link, Net, connected, net_of, net_within, same_net, top_net}
+use Rattle.cvc_plan.specs.Parts.{IsPart, link_at, link_of, no_link, pair_of, text}
+use Rattle.cvc_plan.proofs.Lists.{all_head, all_tail, none_first}
+use Rattle.cvc_plan.proofs.Among.{among_place, bool_same}
 use Rattle.cvc_flat.specs.declared.rows.InstanceRow.{InstanceRow}
-use Rattle.cvc_flat.specs.declared.rows.NetRow.{NetRow}
 use Rattle.cvc_flat.specs.FindNet.{is_slash, net_named, number_among, path_named, pieces}
 use Rattle.cvc_flat.specs.Flat.{FlatList}
 use Rattle.cvc_names.specs.Names.{AreApart, place_of}
-use Rattle.cvc_flat.specs.Nets.{Link, Net, connected, net_of, net_within, same_net, top_net}
 use Rattle.cvc_flat.specs.Resolving.{AreNames, is_row}
-use Rattle.cvc_flat.specs.Tables.{AreWaysApart, IsPart, Way, link_at, link_of, names_on, net_at, no_link, pair_of, path_of, text, way_at, ways_of}
-use Rattle.cvc_flat.proofs.Lists.{all_head, all_tail, none_first}
+use Rattle.cvc_flat.specs.Tables.{AreWaysApart, Way, names_on, net_at, path_of, way_at, ways_of}
 use Rattle.cvc_flat.proofs.Pieces.{no_place, pieces_at, pieces_none, pieces_some, place_alike}
-use Rattle.cvc_flat.proofs.Resolving.{among_place, bool_same}
 
 -- ## Pieces
 

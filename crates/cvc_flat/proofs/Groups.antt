@@ -2,10 +2,11 @@
 use Rattle.std.proofs.Common.{◌≡◌, ℕ, ◌<◌, length, get_or, sym, ap, ◌∙◌, arith}
 use Rattle.std.specs.Prelude.{slice_index}
 use Rattle.std.proofs.lemmas.List.{get_or-map, length-map}
+use Rattle.cvc_plan.specs.Parts.{text}
 use Rattle.cvc_flat.specs.declared.rows.DeviceRow.{DeviceRow}
 use Rattle.cvc_flat.specs.Flat.{FlatDevice}
 use Rattle.cvc_flat.specs.Held.{IsGroup, device, no_device}
-use Rattle.cvc_flat.specs.Tables.{Tables, held_of, device_at, group_at, table_ways, text}
+use Rattle.cvc_flat.specs.Tables.{Tables, held_of, device_at, group_at, table_ways}
 
 device_is : (t : Tables) (e : ℕ) (d : DeviceRow) → e < length t.devices → device (held_of t).list e ≡ device_at t (table_ways t) (get_or t.devices e d)
 device_is t e d h = get_or-map (device_at t (table_ways t)) t.devices e d no_device h

@@ -8,19 +8,20 @@ use Rattle.std.proofs.lemmas.Bool.{and_parts, eqb-true, false≢true, false_from
 use Rattle.std.proofs.lemmas.List.{get_or-map, length-map, length-take-le, map-append, take_more}
 use Rattle.std.proofs.lemmas.List.Sums.{position_or_len_is}
 use Rattle.cvc_cdl.specs.Instances.{printed}
-use Rattle.cvc_flat.specs.declared.rows.InstancePart.{InstancePart}
+use Rattle.cvc_plan.specs.declared.rows.InstancePart.{InstancePart}
+use Rattle.cvc_plan.specs.declared.rows.NetRow.{NetRow}
+use Rattle.cvc_plan.specs.Nets.{name_of_link}
+use Rattle.cvc_plan.specs.Parts.{link_at, text}
+use Rattle.cvc_plan.proofs.Parts.{link_is}
 use Rattle.cvc_flat.specs.declared.rows.InstanceRow.{InstanceRow}
-use Rattle.cvc_flat.specs.declared.rows.NetRow.{NetRow}
 use Rattle.cvc_flat.specs.Finder.{net_hash, way_hash}
 use Rattle.cvc_flat.specs.FindNet.{printed_net}
 use Rattle.cvc_flat.specs.Hashes.{IsFound, empty_hash, hash_at, hash_of, hash_on}
-use Rattle.cvc_flat.specs.Nets.{name_of_link}
 use Rattle.cvc_flat.specs.Resolving.{ChildOf, IsChild, is_row}
-use Rattle.cvc_flat.specs.Tables.{IsTree, Way, link_at, names_on, net_at, no_row, text, way_at, way_in, ways_from, ways_of}
+use Rattle.cvc_flat.specs.Tables.{IsTree, Way, names_on, net_at, no_row, way_at, way_in, ways_from, ways_of}
 use Rattle.cvc_flat.proofs.Naming.{child_names}
 use Rattle.cvc_flat.proofs.Stripping.{front_more, printed_split}
 use Rattle.cvc_flat.proofs.Ways.{length_ways, ways_append}
-use Rattle.cvc_flat.proofs.Writing.{link_is}
 
 -- ## Hashes
 

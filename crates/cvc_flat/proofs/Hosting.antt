@@ -14,20 +14,21 @@ use Rattle.cvc_cdl.specs.WellFormed.{IsFormedItem, IsWellFormed}
 use Rattle.cvc_cdl.specs.Instances.{all_cells, cell_at, no_cell}
 use Rattle.cvc_params.specs.declared.level.Level.{Level}
 use Rattle.cvc_params.specs.Levels.{card_of, instance_of}
-use Rattle.cvc_flat.specs.declared.cards.OpeningPlan.{OpeningPlan}
-use Rattle.cvc_flat.specs.declared.cards.Plan.{Plan}
-use Rattle.cvc_flat.specs.declared.pins.PortPlan.{PortPlan}
+use Rattle.cvc_plan.specs.declared.cards.OpeningPlan.{OpeningPlan}
+use Rattle.cvc_plan.specs.declared.cards.Plan.{Plan}
+use Rattle.cvc_plan.specs.declared.pins.PortPlan.{PortPlan}
+use Rattle.cvc_plan.specs.declared.rows.NetRow.{NetRow}
+use Rattle.cvc_plan.specs.Nets.{Opening, net_in, net_of, net_within, opening_at, path_of as path_in, top_net}
+use Rattle.cvc_plan.specs.Pins.{IsPlanWithin, port_row, row_of_opening}
+use Rattle.cvc_plan.specs.Planning.{ArePortsOf, IsInstPlan, IsPlan, opening_of}
+use Rattle.cvc_plan.specs.Parts.{text}
 use Rattle.cvc_flat.specs.declared.rows.InstanceRow.{InstanceRow}
-use Rattle.cvc_flat.specs.declared.rows.NetRow.{NetRow}
 use Rattle.cvc_flat.specs.declared.steps.Made.{Made}
 use Rattle.cvc_flat.specs.declared.walk.Mark.{Mark}
-use Rattle.cvc_flat.specs.Flat.{Opening, limits, opening_at}
+use Rattle.cvc_flat.specs.Flat.{limits}
 use Rattle.cvc_flat.specs.Joining.{ArePorts, HasPorts, IsHost}
 use Rattle.cvc_flat.specs.Making.{AreNetsWithin, instance_cause_in, known_nets, net_of_opening}
-use Rattle.cvc_flat.specs.Nets.{net_in, net_of, net_within, path_of as path_in, top_net}
-use Rattle.cvc_flat.specs.Pins.{IsPlanWithin, port_row, row_of_opening}
-use Rattle.cvc_flat.specs.Planning.{ArePortsOf, IsInstPlan, IsPlan, opening_of}
-use Rattle.cvc_flat.specs.Tables.{names_on, path_of, text, way_at, ways_of}
+use Rattle.cvc_flat.specs.Tables.{names_on, path_of, way_at, ways_of}
 use Rattle.cvc_flat.proofs.Entered.{way_stays}
 use Rattle.cvc_flat.proofs.Joined.{has_joined, has_stays, plans_within, ports_here, ports_long, ports_more, ports_stay, ports_step}
 use Rattle.cvc_flat.proofs.Marks.{stepped}

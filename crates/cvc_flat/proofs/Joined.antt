@@ -10,25 +10,26 @@ use Rattle.cvc_cdl.specs.Ending.{instance_cause}
 use Rattle.cvc_cdl.specs.Instances.{Instance, cell_at, cell_for}
 use Rattle.cvc_params.specs.declared.level.Level.{Level}
 use Rattle.cvc_params.specs.Levels.{card_of}
-use Rattle.cvc_flat.specs.declared.cards.Plan.{Plan}
-use Rattle.cvc_flat.specs.declared.pins.Pin.{Pin}
-use Rattle.cvc_flat.specs.declared.pins.Pin.TheVariants as pins
-use Rattle.cvc_flat.specs.declared.pins.PortPlan.{PortPlan}
-use Rattle.cvc_flat.specs.declared.pins.PortPlan.TheVariants as plans
-use Rattle.cvc_flat.specs.declared.rows.InstancePart.{InstancePart}
+use Rattle.cvc_plan.specs.declared.cards.Plan.{Plan}
+use Rattle.cvc_plan.specs.declared.pins.Pin.{Pin}
+use Rattle.cvc_plan.specs.declared.pins.Pin.TheVariants as pins
+use Rattle.cvc_plan.specs.declared.pins.PortPlan.{PortPlan}
+use Rattle.cvc_plan.specs.declared.pins.PortPlan.TheVariants as plans
+use Rattle.cvc_plan.specs.declared.rows.InstancePart.{InstancePart}
+use Rattle.cvc_plan.specs.declared.rows.NetRow.{NetRow}
+use Rattle.cvc_plan.specs.Nets.{Net, global_names, link_of as link_in, names_of, net_in, net_of, net_within, path_of as path_in, top_net}
+use Rattle.cvc_plan.specs.Pins.{ArePins, ArePortPlans, IsPin, IsPinWithin, IsPlanWithin, IsPortPlan, net_given, no_net_row, pin_row, port_row}
+use Rattle.cvc_plan.specs.Parts.{text}
+use Rattle.cvc_plan.proofs.Growing.{map_alike}
+use Rattle.cvc_plan.proofs.Lists.{all_cons}
+use Rattle.cvc_plan.proofs.Pinned.{fits_ports, global_net, own_net, pin_within, plan_within, port_net}
 use Rattle.cvc_flat.specs.declared.rows.InstanceRow.{InstanceRow}
-use Rattle.cvc_flat.specs.declared.rows.NetRow.{NetRow}
 use Rattle.cvc_flat.specs.declared.walk.Mark.{Mark}
 use Rattle.cvc_flat.specs.Joining.{ArePorts, HasPorts}
 use Rattle.cvc_flat.specs.Making.{AreNetsWithin, known_nets}
-use Rattle.cvc_flat.specs.Nets.{Net, global_names, link_of as link_in, names_of, net_in, net_of, net_within, path_of as path_in, top_net}
-use Rattle.cvc_flat.specs.Pins.{ArePins, ArePortPlans, IsPin, IsPinWithin, IsPlanWithin, IsPortPlan, net_given, no_net_row, pin_row, port_row}
-use Rattle.cvc_flat.specs.Tables.{names_on, net_at, path_of, text, way_at, ways_of}
+use Rattle.cvc_flat.specs.Tables.{names_on, net_at, path_of, way_at, ways_of}
 use Rattle.cvc_flat.proofs.Entered.{way_stays}
-use Rattle.cvc_flat.proofs.Growing.{map_alike}
-use Rattle.cvc_flat.proofs.Lists.{all_cons}
 use Rattle.cvc_flat.proofs.Marks.{stepped}
-use Rattle.cvc_flat.proofs.Pinned.{fits_ports, global_net, own_net, pin_within, plan_within, port_net}
 use Rattle.cvc_flat.proofs.Ways.{way_top}
 
 -- ## Pins

@@ -1,4 +1,3 @@
-pub mod Lists
 pub mod Writing
 pub mod Ways
 pub mod Groups
@@ -11,11 +10,8 @@ pub mod Finding
 pub mod Hashing
 pub mod Hashed
 pub mod Numbering
-pub mod Growing
 pub mod Stack
 pub mod Once
-pub mod Pinned
-pub mod Planned
 pub mod Numbered
 pub mod Added
 pub mod Marks

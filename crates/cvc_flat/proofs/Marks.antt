@@ -15,7 +15,8 @@ use Rattle.cvc_cdl.specs.Instances.{Instance, cell_at, no_cell, top_cell}
 use Rattle.cvc_params.specs.declared.level.Level.{Level}
 use Rattle.cvc_params.specs.Levels.{card_of}
 use Rattle.cvc_params.proofs.Each.{Each}
-use Rattle.cvc_flat.specs.declared.cards.Plan.{Plan}
+use Rattle.cvc_plan.specs.declared.cards.Plan.{Plan}
+use Rattle.cvc_plan.proofs.Lists.{all_head, all_tail}
 use Rattle.cvc_flat.specs.declared.rows.InstanceRow.{InstanceRow}
 use Rattle.cvc_flat.specs.declared.steps.Made.{Made}
 use Rattle.cvc_flat.specs.declared.walk.Mark.{Mark}
@@ -26,7 +27,6 @@ use Rattle.cvc_flat.specs.Tables.{path_of}
 use Rattle.cvc_flat.specs.Walk.{Visit}
 use Rattle.cvc_flat.proofs.Apart.{AllApart, Different, instances_append, walk_apart}
 use Rattle.cvc_flat.proofs.Entered.{way_stays}
-use Rattle.cvc_flat.proofs.Lists.{all_head, all_tail}
 use Rattle.cvc_flat.proofs.Stack.{fault_next, left_device, left_done, left_instance, left_start}
 
 -- ## Marks

@@ -5,13 +5,14 @@ use Rattle.std.specs.Option.{option_map}
 use Rattle.std.proofs.lemmas.List.{get_or-drop, get_or-map, length-drop, length-map}
 use Rattle.cvc_cdl.specs.Instances.{same_names}
 use Rattle.cvc_cdl.proofs.SameNames.{names_same, names_true}
-use Rattle.cvc_flat.specs.declared.rows.InstancePart.{InstancePart}
+use Rattle.cvc_plan.specs.declared.rows.InstancePart.{InstancePart}
+use Rattle.cvc_plan.specs.Nets.{Path, names_of, net_of}
+use Rattle.cvc_plan.specs.Parts.{link_at}
 use Rattle.cvc_flat.specs.declared.rows.InstanceRow.{InstanceRow}
 use Rattle.cvc_flat.specs.FindNet.{net_named, path_named}
 use Rattle.cvc_flat.specs.Flat.{FlatList}
-use Rattle.cvc_flat.specs.Nets.{Path, names_of, net_of}
 use Rattle.cvc_flat.specs.Resolving.{IsChild}
-use Rattle.cvc_flat.specs.Tables.{IsTree, link_at, names_on, no_row, path_of, way_at, way_in, ways_of}
+use Rattle.cvc_flat.specs.Tables.{IsTree, names_on, no_row, path_of, way_at, way_in, ways_of}
 use Rattle.cvc_flat.proofs.Ways.{length_ways, way_step, way_top}
 
 -- ## The first that passes

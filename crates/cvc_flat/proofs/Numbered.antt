@@ -6,17 +6,17 @@ use Rattle.std.proofs.lemmas.Bool.{eq-eqb, false≢true}
 use Rattle.std.proofs.lemmas.List.{append-nil, length-map, map-append}
 use Rattle.std.proofs.lemmas.List.Elements.{All-append}
 use Rattle.cvc_base.specs.declared.ids.NetId.{NetId}
-use Rattle.cvc_flat.specs.declared.cards.Plan.{Plan}
+use Rattle.cvc_plan.specs.declared.cards.Plan.{Plan}
+use Rattle.cvc_plan.specs.declared.rows.NetRow.{NetRow}
+use Rattle.cvc_plan.specs.Nets.{Net, same_net}
+use Rattle.cvc_plan.proofs.Lists.{all_head, all_one, all_tail}
 use Rattle.cvc_flat.specs.declared.rows.InstanceRow.{InstanceRow}
-use Rattle.cvc_flat.specs.declared.rows.NetRow.{NetRow}
 use Rattle.cvc_flat.specs.Flat.{is_net_among, net_id, nets_once, number_of_net}
 use Rattle.cvc_flat.specs.Making.{NumbersPins, known_nets}
 use Rattle.cvc_names.specs.Names.{AreApart}
-use Rattle.cvc_flat.specs.Nets.{Net, same_net}
 use Rattle.cvc_flat.specs.Resolving.{is_row}
 use Rattle.cvc_flat.specs.Tables.{AreWaysApart, net_at, ways_of}
 use Rattle.cvc_flat.proofs.Finding.{row_is}
-use Rattle.cvc_flat.proofs.Lists.{all_head, all_one, all_tail}
 use Rattle.cvc_flat.proofs.Numbering.{once_row}
 use Rattle.cvc_flat.proofs.Once.{once_append}
 use Rattle.cvc_flat.proofs.Pieces.{first_alike as first_same}

@@ -5,7 +5,7 @@ use Rattle.std.specs.List.{flat_map}
 use Rattle.std.proofs.lemmas.Grind.{flat_map-append}
 use Rattle.std.proofs.lemmas.List.{append_assoc, append-nil}
 use Rattle.cvc_cdl.specs.declared.netlist.Netlist.{Netlist}
-use Rattle.cvc_flat.specs.Nets.{Net}
+use Rattle.cvc_plan.specs.Nets.{Net}
 use Rattle.cvc_flat.specs.Walk.{Visit}
 use Rattle.cvc_flat.specs.Flat.{is_net_among, nets_once, nets_behind, opening_nets, pins_at}
 

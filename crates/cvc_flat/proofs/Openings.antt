@@ -11,18 +11,19 @@ use Rattle.cvc_base.specs.declared.fault.Fault.{Fault}
 use Rattle.cvc_base.specs.declared.fault.Refusal.{Refusal}
 use Rattle.cvc_base.specs.declared.fault.Refusal.TheVariants.{At}
 use Rattle.cvc_cdl.specs.Building.{fault_at}
-use Rattle.cvc_flat.specs.declared.cards.Plan.{Plan}
-use Rattle.cvc_flat.specs.declared.rows.NetRow.{NetRow}
-use Rattle.cvc_flat.specs.Flat.{Opening, limits, nets_once, opening_fault}
+use Rattle.cvc_plan.specs.declared.cards.Plan.{Plan}
+use Rattle.cvc_plan.specs.declared.rows.NetRow.{NetRow}
+use Rattle.cvc_plan.specs.Nets.{Net, Opening, net_within, top_net}
+use Rattle.cvc_plan.specs.Parts.{text}
+use Rattle.cvc_plan.proofs.Lists.{all_one}
+use Rattle.cvc_plan.proofs.Planned.{map_more}
+use Rattle.cvc_flat.specs.Flat.{limits, nets_once, opening_fault}
 use Rattle.cvc_flat.specs.Making.{known_nets, net_of_opening}
 use Rattle.cvc_names.specs.Names.{AreApart}
-use Rattle.cvc_flat.specs.Nets.{Net, net_within, top_net}
 use Rattle.cvc_flat.specs.Resolving.{is_row}
-use Rattle.cvc_flat.specs.Tables.{AreWaysApart, Way, names_on, net_at, text, ways_of}
-use Rattle.cvc_flat.proofs.Lists.{all_one}
+use Rattle.cvc_flat.specs.Tables.{AreWaysApart, Way, names_on, net_at, ways_of}
 use Rattle.cvc_flat.proofs.Numbering.{once_row}
 use Rattle.cvc_flat.proofs.Once.{once_append}
-use Rattle.cvc_flat.proofs.Planned.{map_more}
 use Rattle.cvc_flat.proofs.Ways.{way_top}
 
 module _ (p : Plan) (apart : AreApart p.cards.names) where

@@ -4,7 +4,7 @@ use Rattle.std.specs.Prelude.{All, Some, None, position, nat_lt}
 use Rattle.std.specs.List.{onto_first, position_or_len, slice_split}
 use Rattle.std.proofs.lemmas.Bool.Decides.{nat_tests}
 use Rattle.std.proofs.lemmas.List.{length-map}
-use Rattle.cvc_flat.proofs.Lists.{all_head, all_tail}
+use Rattle.cvc_plan.proofs.Lists.{all_head, all_tail}
 
 split_at : (p : ℕ → Bool) (xs : List ℕ) → position_or_len p xs < length xs → slice_split p xs ≡ take (position_or_len p xs) xs ∷ slice_split p (drop (position_or_len p xs + 1) xs)
 split_at p [] h = absurd (omega arith)

@@ -15,11 +15,11 @@ use Rattle.cvc_params.specs.declared.params.Sight.{Sight}
 use Rattle.cvc_params.specs.PairIndexes.{IsListed}
 use Rattle.cvc_params.specs.PairLists.{AreListed, IsCellListed, IsItemListed}
 use Rattle.cvc_params.specs.Sights.{IsSight}
-use Rattle.cvc_flat.specs.declared.cards.Plan.{Plan}
+use Rattle.cvc_plan.specs.declared.cards.Plan.{Plan}
+use Rattle.cvc_plan.specs.Planning.{IsInstPlan}
 use Rattle.cvc_flat.specs.declared.rows.InstanceRow.{InstanceRow}
 use Rattle.cvc_flat.specs.declared.steps.Made.{Made}
 use Rattle.cvc_flat.specs.declared.walk.Mark.{Mark}
-use Rattle.cvc_flat.specs.Planning.{IsInstPlan}
 use Rattle.cvc_flat.proofs.States.{IsState, here, levels_long}
 
 -- a sight of the netlist, with all its lists

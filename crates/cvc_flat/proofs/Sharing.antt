@@ -14,15 +14,15 @@ use Rattle.cvc_cdl.proofs.Zips.{zip_at, zip_length, zip_map}
 use Rattle.cvc_params.specs.declared.level.Level.{Level}
 use Rattle.cvc_params.specs.Places.{has_loop}
 use Rattle.cvc_params.proofs.Loops.{params_none}
-use Rattle.cvc_flat.specs.declared.cards.Plan.{Plan}
+use Rattle.cvc_plan.specs.declared.cards.Plan.{Plan}
+use Rattle.cvc_plan.specs.declared.plan.DevicePlan.{DevicePlan}
+use Rattle.cvc_plan.specs.Plans.{IsPlanOf}
 use Rattle.cvc_flat.specs.declared.shared.CellGroups.{CellGroups}
-use Rattle.cvc_flat.specs.declared.plan.DevicePlan.{DevicePlan}
 use Rattle.cvc_flat.specs.declared.rows.Group.{Group}
 use Rattle.cvc_flat.specs.declared.rows.InstanceRow.{InstanceRow}
 use Rattle.cvc_flat.specs.declared.steps.Made.{Made}
 use Rattle.cvc_flat.specs.declared.walk.Mark.{Mark}
 use Rattle.cvc_names.specs.Names.{AreApart}
-use Rattle.cvc_flat.specs.Plans.{IsPlanOf}
 use Rattle.cvc_flat.specs.Sharing.{AreItemsShared, AreShared, HasNoGroups, IsGroupOf, IsItemShared, IsShared, TakesGroup}
 use Rattle.cvc_flat.specs.Tables.{no_group}
 use Rattle.cvc_flat.proofs.States.{IsState, here}

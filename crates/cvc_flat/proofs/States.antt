@@ -21,26 +21,27 @@ use Rattle.cvc_cdl.specs.Instances.{Instance, all_cells, cell_at, cell_for, no_c
 use Rattle.cvc_cdl.proofs.Zips.{zip_at, zip_length}
 use Rattle.cvc_params.specs.declared.level.Level.{Level}
 use Rattle.cvc_params.specs.Levels.{AreLevels, card_of, instance_of}
-use Rattle.cvc_flat.specs.declared.cards.CellPlan.{CellPlan}
-use Rattle.cvc_flat.specs.declared.cards.ItemPlan.{ItemPlan}
-use Rattle.cvc_flat.specs.declared.cards.Plan.{Plan}
+use Rattle.cvc_plan.specs.declared.cards.CellPlan.{CellPlan}
+use Rattle.cvc_plan.specs.declared.cards.ItemPlan.{ItemPlan}
+use Rattle.cvc_plan.specs.declared.cards.Plan.{Plan}
+use Rattle.cvc_plan.specs.declared.rows.NetRow.{NetRow}
+use Rattle.cvc_plan.specs.Nets.{link_of as link_in, path_of as path_in}
+use Rattle.cvc_plan.specs.Planning.{IsCellPlan, IsInstPlan, IsItemPlan, IsPlan}
+use Rattle.cvc_plan.specs.Parts.{link_at}
+use Rattle.cvc_plan.proofs.Lists.{all_front, all_one}
+use Rattle.cvc_plan.proofs.Planned.{element}
 use Rattle.cvc_flat.specs.declared.rows.Group.{Group}
 use Rattle.cvc_flat.specs.declared.rows.InstanceRow.{InstanceRow}
-use Rattle.cvc_flat.specs.declared.rows.NetRow.{NetRow}
 use Rattle.cvc_flat.specs.declared.steps.Made.{Made}
 use Rattle.cvc_flat.specs.declared.walk.Mark.{Mark}
 use Rattle.cvc_flat.specs.Flat.{devices_behind, flat_device, instances_behind, limits, nets_behind, visit_fault, visits_of, walk_fault}
 use Rattle.cvc_flat.specs.Left.{left}
 use Rattle.cvc_flat.specs.Making.{AddsDevice, AreMarks, IsMark, Shows, device_cause_in, frames_of, instance_cause_in, known_nets, tables_of}
-use Rattle.cvc_flat.specs.Nets.{link_of as link_in, path_of as path_in}
-use Rattle.cvc_flat.specs.Planning.{IsCellPlan, IsInstPlan, IsItemPlan, IsPlan}
-use Rattle.cvc_flat.specs.Tables.{AreWaysApart, IsDevice, IsSound, Way, device_at, link_at, path_of, way_at, ways_from, ways_of}
+use Rattle.cvc_flat.specs.Tables.{AreWaysApart, IsDevice, IsSound, Way, device_at, path_of, way_at, ways_from, ways_of}
 use Rattle.cvc_flat.specs.Walk.{Visit}
 use Rattle.cvc_flat.proofs.Added.{shows_device}
 use Rattle.cvc_flat.proofs.Entered.{never_top, path_new, shows_instance, sound_instance, way_new, ways_apart, ways_count}
-use Rattle.cvc_flat.proofs.Lists.{all_front, all_one}
 use Rattle.cvc_flat.proofs.Marks.{IsWalked, begins, close_last, close_one, done_apart, fault_more, level_formed, mark_here, marks_long, marks_stay, marks_step, stepped, visit_device, visit_first, visit_instance, walked_more}
-use Rattle.cvc_flat.proofs.Planned.{element}
 use Rattle.cvc_flat.proofs.Stack.{fault_here}
 use Rattle.cvc_flat.proofs.Ways.{way_top}
 use Rattle.indexmap.proofs.ReorderLemmas.{map-reverse}

@@ -8,7 +8,7 @@ use Rattle.std.proofs.Math.Seq.{drop-append_seam}
 use Rattle.std.proofs.lemmas.Bool.{false≢true}
 use Rattle.std.proofs.lemmas.List.{append-nil, append_cancel_right, take-append-drop}
 use Rattle.cvc_cdl.specs.Instances.{printed}
-use Rattle.cvc_flat.proofs.Resolving.{bool_same}
+use Rattle.cvc_plan.proofs.Among.{bool_same}
 
 -- a text that ends so is the text that its front is
 pub strip_yes : (rest front s p : List ℕ) → bytes_eq (drop (length rest - length s) rest) s ≡ true → front ≡ take (length rest - length s) rest → bytes_eq rest (p ++ s) ≡ bytes_eq front p

@@ -4,8 +4,8 @@ use Rattle.std.specs.Prelude.{All}
 use Rattle.std.proofs.Math.Seq.{get_or-append_seam}
 use Rattle.std.proofs.lemmas.List.{get_or_append_left}
 use Rattle.std.proofs.lemmas.List.Elements.{All-append}
+use Rattle.cvc_plan.proofs.Lists.{all_cons, all_head, all_one, all_tail}
 use Rattle.cvc_flat.specs.declared.rows.InstanceRow.{InstanceRow}
-use Rattle.cvc_flat.proofs.Lists.{all_cons, all_head, all_one, all_tail}
 use Rattle.cvc_flat.specs.Tables.{Way, no_row, way_at, way_in, ways_from, ways_of}
 
 -- what is known stays in its place

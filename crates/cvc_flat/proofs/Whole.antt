@@ -9,12 +9,12 @@ use Rattle.cvc_base.specs.declared.fault.Refusal.TheVariants.{At, NoMemory}
 use Rattle.cvc_cdl.specs.declared.netlist.Netlist.{Netlist}
 use Rattle.cvc_cdl.specs.Building.{or_else}
 use Rattle.cvc_cdl.specs.Ending.{unless_fault}
-use Rattle.cvc_flat.specs.declared.cards.Plan.{Plan}
+use Rattle.cvc_plan.specs.declared.cards.Plan.{Plan}
+use Rattle.cvc_plan.specs.Nets.{global_names}
 use Rattle.cvc_flat.specs.declared.rows.InstanceRow.{InstanceRow}
 use Rattle.cvc_flat.specs.declared.steps.Made.{Made}
 use Rattle.cvc_flat.specs.Flat.{flat_of, flat_fault, limits, list_behind, nets_behind, nets_once, opening_fault, opening_nets, openings, visits_of, walk_fault}
 use Rattle.cvc_flat.specs.Making.{Shows, net_of_opening, tables_of}
-use Rattle.cvc_flat.specs.Nets.{global_names}
 use Rattle.cvc_flat.specs.Tables.{held_of}
 use Rattle.cvc_flat.specs.Walk.{Visit}
 

@@ -2,14 +2,16 @@
 use Rattle.std.proofs.Common.{◌≡◌, ℕ, ◌+◌, ◌-◌, ◌<◌, List, [], ◌∷◌, ◌++◌, length, map, get_or, take, drop, Option, Some, None, refl, sym, ap, ◌∙◌, append_assoc, arith}
 use Rattle.std.specs.Prelude.{codes, Result, Ok, Err}
 use Rattle.std.specs.Io.KnownBytes.{append_known}
-use Rattle.std.proofs.lemmas.List.{append-nil, get_or-map, length-drop, map-append, take_all, take-append-drop}
+use Rattle.std.proofs.lemmas.List.{append-nil, length-drop, map-append, take_all, take-append-drop}
 use Rattle.std.proofs.Math.Seq.{take-add}
 use Rattle.cvc_io.specs.declared.error.WriteFailed.{WriteFailed}
 use Rattle.cvc_cdl.specs.Instances.{printed}
-use Rattle.cvc_flat.specs.declared.rows.InstancePart.{InstancePart}
+use Rattle.cvc_plan.specs.declared.rows.InstancePart.{InstancePart}
+use Rattle.cvc_plan.specs.Nets.{name_of_link}
+use Rattle.cvc_plan.specs.Parts.{link_at, text}
+use Rattle.cvc_plan.proofs.Parts.{link_is}
 use Rattle.cvc_flat.specs.Answers.{WritesPart, WritesText}
-use Rattle.cvc_flat.specs.Nets.{name_of_link}
-use Rattle.cvc_flat.specs.Tables.{link_at, link_of, names_on, no_link, text}
+use Rattle.cvc_flat.specs.Tables.{names_on}
 
 pub twice_known : (before : Option (List ℕ)) (x y : List ℕ) → append_known (append_known before x) y ≡ append_known before (x ++ y)
 twice_known None x y = refl
@@ -48,9 +50,6 @@ pub writes_last : (r : Result (Unit {0}) WriteFailed) (done piece text : List �
     → WritesText so_far after r piece → WritesText before after r text
 writes_last (Ok u) done piece text before so_far after e whole w = w ∙ ap (λ (o : Option (List ℕ)). append_known o piece) e ∙ twice_known before done piece ∙ ap (append_known before) whole
 writes_last (Err f) done piece text before so_far after e whole w = part_behind done piece [] text before so_far after e (ap (λ (x : List ℕ). done ++ x) (append-nil piece) ∙ whole) w
-
-pub link_is : (names : List (List ℕ)) (parts : List InstancePart) (k : ℕ) (part : InstancePart) → k < length parts → part ≡ get_or parts k part → link_at names parts k ≡ link_of names part
-link_is names parts k part h e = get_or-map (link_of names) parts k part no_link h ∙ ap (link_of names) (sym e)
 
 -- what is left to print once the outermost name was taken
 pub path_last : (names : List (List ℕ)) (parts : List InstancePart) (way : List ℕ) (card : ℕ) (part : InstancePart) (name : List ℕ) → card < length parts → part ≡ get_or parts card part

@@ -5,7 +5,7 @@ use Rattle.std.specs.List.{slice_split}
 use Rattle.std.specs.Option.{option_map, option_and_then, option_or}
 use Rattle.std.specs.Str.{bytes_eq}
 use Rattle.cvc_cdl.specs.Instances.{printed, same_names}
-use Rattle.cvc_flat.specs.Nets.{Net, Path, names_of, net_of, same_net}
+use Rattle.cvc_plan.specs.Nets.{Net, Path, names_of, net_of, same_net}
 use Rattle.cvc_flat.specs.Flat.{FlatList}
 
 abbrev pub printed_net : Net → List ℕ

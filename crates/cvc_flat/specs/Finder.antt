@@ -2,10 +2,10 @@
 -- instance 0.
 use Rattle.std.specs.Prelude.{◌≡◌, ℕ, List, [], map}
 use Rattle.cvc_cdl.specs.Instances.{printed}
+use Rattle.cvc_plan.specs.declared.rows.InstancePart.{InstancePart}
+use Rattle.cvc_plan.specs.declared.rows.NetRow.{NetRow}
 use Rattle.cvc_flat.specs.declared.finder.Finder.{Finder}
-use Rattle.cvc_flat.specs.declared.rows.InstancePart.{InstancePart}
 use Rattle.cvc_flat.specs.declared.rows.InstanceRow.{InstanceRow}
-use Rattle.cvc_flat.specs.declared.rows.NetRow.{NetRow}
 use Rattle.cvc_flat.specs.FindNet.{printed_net}
 use Rattle.cvc_flat.specs.Hashes.{hash_of}
 use Rattle.cvc_flat.specs.Tables.{Way, names_on, net_at, ways_of}

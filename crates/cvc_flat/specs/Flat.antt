@@ -21,7 +21,7 @@ use Rattle.cvc_cdl.specs.Ending.{unless_fault}
 use Rattle.cvc_cdl.specs.Instances.{Instance, cell_at, names_to}
 use Rattle.cvc_params.specs.Params.{params_in}
 use Rattle.cvc_params.specs.Places.{has_loop}
-use Rattle.cvc_flat.specs.Nets.{Net, Path, same_net, top_net, path_of, global_names, net_in}
+use Rattle.cvc_plan.specs.Nets.{Net, Opening, Path, same_net, path_of, global_names, net_in, opening_at}
 use Rattle.cvc_flat.specs.Walk.{Visit, walk}
 
 -- ## Nets, each once
@@ -33,14 +33,6 @@ is_net_among nets net = list_any (same_net net) nets
 unfoldable pub nets_once : List Net → List Net → List Net
 nets_once known [] = known
 nets_once known (net ∷ nets) = nets_once (if is_net_among known net then known else known ++ net ∷ []) nets
-
--- the net of a global or of a port of the top, with the line of the card that names it
-pub record Opening : Type 0 where
-  pub net : Net
-  pub line : ℕ
-
-abbrev pub opening_at : ℕ → List ℕ → Opening
-opening_at line name = record { net = top_net name; line = line }
 
 abbrev pub openings : Netlist → List Opening
 openings n = map (λ (g : GlobalNet). opening_at g.line g.name) n.globals ++ map (opening_at (cell_at n []).line) (cell_at n []).ports

@@ -2,7 +2,7 @@
 use Rattle.std.specs.Prelude.{◌≡◌, ℕ, ◌<◌, List, [], length, slice_index, slice_index_or}
 use Rattle.cvc_card.specs.declared.card.Letter.TheVariants.{M}
 use Rattle.cvc_cdl.specs.Instances.{printed}
-use Rattle.cvc_flat.specs.Nets.{Net, top_net}
+use Rattle.cvc_plan.specs.Nets.{Net, top_net}
 use Rattle.cvc_flat.specs.Flat.{FlatDevice, FlatList}
 
 pub record Held : Type 0 where

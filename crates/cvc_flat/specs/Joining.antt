@@ -5,13 +5,13 @@ use Rattle.cvc_cdl.specs.Building.{is_among}
 use Rattle.cvc_cdl.specs.Instances.{Instance, cell_at}
 use Rattle.cvc_params.specs.declared.level.Level.{Level}
 use Rattle.cvc_params.specs.Levels.{card_of}
-use Rattle.cvc_flat.specs.declared.cards.Plan.{Plan}
+use Rattle.cvc_plan.specs.declared.cards.Plan.{Plan}
+use Rattle.cvc_plan.specs.declared.rows.NetRow.{NetRow}
+use Rattle.cvc_plan.specs.Nets.{global_names, names_of, net_in, net_within, path_of as path_in}
 use Rattle.cvc_flat.specs.declared.rows.InstanceRow.{InstanceRow}
-use Rattle.cvc_flat.specs.declared.rows.NetRow.{NetRow}
 use Rattle.cvc_flat.specs.declared.steps.Made.{Made}
 use Rattle.cvc_flat.specs.declared.walk.Mark.{Mark}
 use Rattle.cvc_flat.specs.Making.{AreNetsWithin, known_nets, tables_of}
-use Rattle.cvc_flat.specs.Nets.{global_names, names_of, net_in, net_within, path_of as path_in}
 use Rattle.cvc_flat.specs.Tables.{IsSound, path_of, way_at, ways_of}
 
 -- the rows are the nets of the ports of the instance's cell, in order; a name that is neither global nor a port is a net of the instance itself

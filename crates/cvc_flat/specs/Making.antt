@@ -11,18 +11,18 @@ use Rattle.cvc_cdl.specs.Instances.{Instance, all_cells, cell_at, no_cell}
 use Rattle.cvc_params.specs.declared.level.Level.{Level}
 use Rattle.cvc_params.specs.Levels.{card_of}
 use Rattle.cvc_params.specs.Places.{has_loop}
-use Rattle.cvc_flat.specs.declared.cards.Cards.{Cards}
-use Rattle.cvc_flat.specs.declared.cards.Plan.{Plan}
+use Rattle.cvc_plan.specs.declared.cards.Cards.{Cards}
+use Rattle.cvc_plan.specs.declared.cards.Plan.{Plan}
+use Rattle.cvc_plan.specs.declared.rows.NetRow.{NetRow}
+use Rattle.cvc_plan.specs.Nets.{Net, Opening, path_of as path_in}
 use Rattle.cvc_flat.specs.declared.rows.DeviceRow.{DeviceRow}
 use Rattle.cvc_flat.specs.declared.rows.Group.{Group}
 use Rattle.cvc_flat.specs.declared.rows.InstanceRow.{InstanceRow}
-use Rattle.cvc_flat.specs.declared.rows.NetRow.{NetRow}
 use Rattle.cvc_flat.specs.declared.steps.Made.{Made}
 use Rattle.cvc_flat.specs.declared.walk.Mark.{Mark}
-use Rattle.cvc_flat.specs.Flat.{Limits, Opening, devices_behind, flat_device, instances_behind, net_id, nets_behind, nets_once, pins_of}
+use Rattle.cvc_flat.specs.Flat.{Limits, devices_behind, flat_device, instances_behind, net_id, nets_behind, nets_once, pins_of}
 use Rattle.cvc_flat.specs.Left.{Frame}
 use Rattle.cvc_names.specs.Names.{AreApart}
-use Rattle.cvc_flat.specs.Nets.{Net, path_of as path_in}
 use Rattle.cvc_flat.specs.Tables.{AreWaysApart, IsSound, Tables, device_at, net_at, path_of, way_at, ways_of}
 use Rattle.cvc_flat.specs.Walk.{Visit}
 

@@ -1,13 +1,14 @@
 -- The net of a name in tables. Where each name has one number and each instance its own names, numbers stand for texts.
 use Rattle.std.specs.Prelude.{◌≡◌, ℕ, ◌-◌, ◌==◌, ◌<◌, ◌≤◌, ◌&&◌, Bool, List, take, length, All, Option, MatchOption, find, slice_index_or}
 use Rattle.std.specs.Option.{option_map}
-use Rattle.cvc_flat.specs.declared.rows.Connection.{Connection}
-use Rattle.cvc_flat.specs.declared.rows.InstancePart.{InstancePart}
+use Rattle.cvc_plan.specs.declared.rows.Connection.{Connection}
+use Rattle.cvc_plan.specs.declared.rows.InstancePart.{InstancePart}
+use Rattle.cvc_plan.specs.declared.rows.NetRow.{NetRow}
+use Rattle.cvc_plan.specs.Nets.{net_of}
+use Rattle.cvc_plan.specs.Parts.{IsPart, link_at, text}
 use Rattle.cvc_flat.specs.declared.rows.InstanceRow.{InstanceRow}
-use Rattle.cvc_flat.specs.declared.rows.NetRow.{NetRow}
 use Rattle.cvc_names.specs.Names.{AreApart}
-use Rattle.cvc_flat.specs.Nets.{net_of}
-use Rattle.cvc_flat.specs.Tables.{IsPart, link_at, net_at, no_row, path_of, text, way_at, ways_of}
+use Rattle.cvc_flat.specs.Tables.{net_at, no_row, path_of, way_at, ways_of}
 
 -- what a port is connected to
 abbrev pub net_beside : List Connection → ℕ → Option ℕ

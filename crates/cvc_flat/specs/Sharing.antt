@@ -10,9 +10,10 @@ use Rattle.cvc_cdl.specs.declared.netlist.Item.TheVariants as items
 use Rattle.cvc_cdl.specs.declared.netlist.Netlist.{Netlist}
 use Rattle.cvc_cdl.specs.Instances.{Instance}
 use Rattle.cvc_params.specs.Params.{params_in}
+use Rattle.cvc_plan.specs.Parts.{text}
 use Rattle.cvc_flat.specs.declared.shared.CellGroups.{CellGroups}
 use Rattle.cvc_flat.specs.declared.rows.Group.{Group}
-use Rattle.cvc_flat.specs.Tables.{group_at, text}
+use Rattle.cvc_flat.specs.Tables.{group_at}
 
 -- the group has this model and, in every instance, the parameters of these pairs
 pub record IsGroupOf (groups : List Group) (pairs : List Pair) (model g : ℕ) : Type 0 where

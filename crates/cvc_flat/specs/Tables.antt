@@ -2,18 +2,16 @@
 -- than its own, and the number of its card; so the ways to all instances follow from the first row on.
 use Rattle.std.specs.Prelude.{◌≡◌, ℕ, ◌^◌, ◌<◌, ◌≤◌, List, [], ◌∷◌, ◌++◌, map, take, drop, length, Option, All, slice_index_or}
 use Rattle.cvc_base.specs.declared.ids.NetId.{NetId}
-use Rattle.cvc_base.specs.declared.param.Pair.{Pair}
-use Rattle.cvc_card.specs.declared.card.Letter.TheVariants.{M}
 use Rattle.cvc_card.specs.Card.{net_count}
-use Rattle.cvc_flat.specs.declared.rows.Connection.{Connection}
-use Rattle.cvc_flat.specs.declared.rows.DevicePart.{DevicePart}
+use Rattle.cvc_plan.specs.declared.rows.DevicePart.{DevicePart}
+use Rattle.cvc_plan.specs.declared.rows.InstancePart.{InstancePart}
+use Rattle.cvc_plan.specs.declared.rows.NetRow.{NetRow}
+use Rattle.cvc_plan.specs.Nets.{Net, Path, names_of, net_within}
+use Rattle.cvc_plan.specs.Parts.{IsPart, link_at, part_at, text}
 use Rattle.cvc_flat.specs.declared.rows.DeviceRow.{DeviceRow}
 use Rattle.cvc_flat.specs.declared.rows.Group.{Group}
-use Rattle.cvc_flat.specs.declared.rows.InstancePart.{InstancePart}
 use Rattle.cvc_flat.specs.declared.rows.InstanceRow.{InstanceRow}
-use Rattle.cvc_flat.specs.declared.rows.NetRow.{NetRow}
 use Rattle.cvc_names.specs.Names.{AreApart}
-use Rattle.cvc_flat.specs.Nets.{Link, Net, Path, names_of, net_within}
 use Rattle.cvc_flat.specs.Flat.{FlatDevice}
 use Rattle.cvc_flat.specs.Held.{Held}
 
@@ -27,9 +25,6 @@ pub record Tables : Type 0 where
   pub instances : List InstanceRow
   pub devices : List DeviceRow
   pub nets : List NetRow
-
-abbrev pub text : List (List ℕ) → ℕ → List ℕ
-text names k = slice_index_or names k []
 
 -- ## Ways
 
@@ -53,18 +48,6 @@ ways_of rows = ways_from ([] ∷ []) rows
 
 -- ## Paths
 
-abbrev pub pair_of : List (List ℕ) → Connection → Pair
-pair_of names c = record { name = text names c.port; value = text names c.net }
-
-abbrev pub link_of : List (List ℕ) → InstancePart → Link
-link_of names part = record { name = text names part.name; connections = map (pair_of names) part.connections.items }
-
-abbrev pub no_link : Link
-no_link = record { name = []; connections = [] }
-
-abbrev pub link_at : List (List ℕ) → List InstancePart → ℕ → Link
-link_at names parts k = slice_index_or (map (link_of names) parts) k no_link
-
 abbrev pub path_of : List (List ℕ) → List InstancePart → Way → Path
 path_of names parts way = map (link_at names parts) way
 
@@ -76,14 +59,8 @@ names_on names parts way = names_of (path_of names parts way)
 abbrev pub net_at : List (List ℕ) → List InstancePart → List Way → NetRow → Net
 net_at names parts ways r = net_within (names_on names parts (way_at ways r.instance)) (text names r.name)
 
-abbrev pub no_part : DevicePart
-no_part = record { letter = M; name = 0; line = 0 }
-
 abbrev pub no_group : Group
 no_group = record { model = 0; params = [] }
-
-abbrev pub part_at : List DevicePart → ℕ → DevicePart
-part_at cards k = slice_index_or cards k no_part
 
 abbrev pub group_at : List Group → ℕ → Group
 group_at groups k = slice_index_or groups k no_group
@@ -116,12 +93,6 @@ held_of t = record {
 }
 
 -- ## Sound tables
-
-abbrev pub AreConnections : List (List ℕ) → List Connection → Type 0
-AreConnections names cs = All (λ (c : Connection). (c.port < length names) × (c.net < length names)) cs
-
-abbrev pub IsPart : List (List ℕ) → InstancePart → Type 0
-IsPart names p = (p.name < length names) × AreConnections names p.connections.items
 
 abbrev pub no_row : InstanceRow
 no_row = record { parent = 0; card = 0 }

@@ -11,8 +11,9 @@ ghost use Rattle.cvc_flat.specs.Tables.{AreWaysApart, IsTree, net_at, path_of, w
 use crate::finder::{Finder, net_hash};
 use crate::hashes::{EMPTY, Hashes, hash_on};
 use crate::resolve::net_row;
-use crate::rows::{InstancePart, InstanceRow, NetRow};
+use crate::rows::InstanceRow;
 use cvc_names::Names;
+use cvc_plan::{InstancePart, NetRow};
 
 // Whether a net is printed so.
 fn is_printed(

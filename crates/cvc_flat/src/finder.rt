@@ -1,13 +1,15 @@
 //! Nets and instances by the hashes of their printed names.
 ghost use Rattle.std.specs.Prelude.{◌≡◌, ◌<◌, ◌≤◌, All, IfOk, length, map, slice_index_or};
+ghost use Rattle.cvc_plan.specs.Parts.{text};
 ghost use Rattle.cvc_flat.specs.Finder.{IsFinder, way_hash};
 ghost use Rattle.cvc_flat.specs.Hashes.{hash_on};
-ghost use Rattle.cvc_flat.specs.Tables.{IsTree, text, ways_of};
+ghost use Rattle.cvc_flat.specs.Tables.{IsTree, ways_of};
 
 use crate::hashes::{EMPTY, Hashes, hash_on};
-use crate::rows::{InstancePart, InstanceRow, NetRow};
+use crate::rows::InstanceRow;
 use cvc_base::NoMemory;
 use cvc_names::Names;
+use cvc_plan::{InstancePart, NetRow};
 use std::alloc::Global;
 
 // What nets are looked up by: for the top and each instance the hash of what is printed in front of a name there, and for each net that of its

@@ -9,13 +9,14 @@ ghost use Rattle.cvc_flat.specs.Held.{device, net, IsGroup, printed_device};
 
 use crate::find::{first_named, first_printed};
 use crate::finder::Finder;
-use crate::rows::{DevicePart, DeviceRow, Group, InstancePart, InstanceRow, NetRow};
+use crate::rows::{DeviceRow, Group, InstanceRow};
 use crate::way::write_path;
 use arrayvec::ArrayVec;
 use cvc_base::{DevId, NetId, Params, Text};
 use cvc_card::Letter;
 use cvc_io::{Sink, WriteFailed};
 use cvc_names::Names;
+use cvc_plan::{DevicePart, InstancePart, NetRow};
 use std::marker::Model;
 
 /// The flat list of a netlist: its nets and its devices, by number, with their names as parts. It holds no netlist. Contracts see it as the

@@ -2,16 +2,11 @@
 //! What a flat list is, and which netlist has which, is written in `specs/`; `flatten` makes one, and `Flat` answers what one holds.
 #![tactic(auto)]
 
-mod cards;
 mod find;
 mod finder;
 mod flat;
 mod hashes;
-mod names;
 mod nets;
-mod pins;
-mod plan;
-mod ports;
 mod printing;
 mod resolve;
 mod rows;

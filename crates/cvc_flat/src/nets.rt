@@ -3,8 +3,8 @@ ghost use Rattle.std.specs.Prelude.{◌≡◌, ◌∷◌, ◌++◌, [], IfOk, le
 ghost use Rattle.std.specs.List.{list_any, position_or_len};
 ghost use Rattle.cvc_flat.specs.Resolving.{is_row};
 
-use crate::rows::NetRow;
 use cvc_base::NoMemory;
+use cvc_plan::NetRow;
 use indexmap::IndexSet;
 use std::alloc::Global;
 use std::marker::Model;
@@ -17,7 +17,7 @@ pub(crate) struct NetTable {
 
 impl Model for NetTable {
     ghost use Rattle.std.specs.Prelude.{List};
-    ghost use Rattle.cvc_flat.specs.declared.rows.NetRow.{NetRow};
+    ghost use Rattle.cvc_plan.specs.declared.rows.NetRow.{NetRow};
 
     ghost Value = { List NetRow };
 

@@ -2,16 +2,18 @@
 ghost use Rattle.std.specs.Prelude.{◌≡◌, ◌<◌, ◌≤◌, All, length};
 ghost use Rattle.std.specs.List.{flat_map};
 ghost use Rattle.cvc_cdl.specs.Instances.{printed};
+ghost use Rattle.cvc_plan.specs.Parts.{text};
 ghost use Rattle.cvc_flat.specs.FindNet.{printed_net};
 ghost use Rattle.cvc_flat.specs.Held.{device, net, printed_device};
-ghost use Rattle.cvc_flat.specs.Tables.{IsTree, names_on, text, way_at, ways_of};
+ghost use Rattle.cvc_flat.specs.Tables.{IsTree, names_on, way_at, ways_of};
 
 use crate::flat::Flat;
-use crate::rows::{InstancePart, InstanceRow};
+use crate::rows::InstanceRow;
 use crate::way::way_up;
 use arrayvec::ArrayVec;
 use cvc_base::{DevId, NetId};
 use cvc_names::Names;
+use cvc_plan::InstancePart;
 
 /// Room for the pieces of a printed name: two for each instance on the way to it, and its own.
 pub type Pieces<'a> = ArrayVec<&'a [u8], 129>;

@@ -3,7 +3,8 @@ ghost use Rattle.std.specs.Prelude.{◌≡◌, ◌<◌, ◌≤◌, ℕ, List, Al
 ghost use Rattle.cvc_flat.specs.Resolving.{AreNames, IsNetOf, net_beside};
 ghost use Rattle.cvc_flat.specs.Tables.{IsTree};
 
-use crate::rows::{Connection, InstancePart, InstanceRow, NetRow};
+use crate::rows::InstanceRow;
+use cvc_plan::{Connection, InstancePart, NetRow};
 
 // What a port is connected to.
 fn connected(connections: &[Connection], name: u32) -> Option<u32>

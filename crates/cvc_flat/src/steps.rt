@@ -8,29 +8,26 @@ ghost use Rattle.cvc_cdl.specs.Building.{fault_at};
 ghost use Rattle.cvc_cdl.specs.Instances.{cell_at};
 ghost use Rattle.cvc_params.specs.Levels.{instance_of};
 ghost use Rattle.cvc_params.specs.Sights.{IsSight, SeesTheSame};
+ghost use Rattle.cvc_plan.specs.Nets.{global_names};
+ghost use Rattle.cvc_plan.specs.Pins.{ArePins, IsPinWithin, pin_row};
+ghost use Rattle.cvc_plan.specs.Planning.{IsDevicePlan, IsPlan, opening_of};
+ghost use Rattle.cvc_plan.specs.declared.cards.Plan.{Plan};
 ghost use Rattle.cvc_flat.specs.Flat.{limits, nets_once, opening_fault};
 ghost use Rattle.cvc_flat.specs.Joining.{IsHost};
 ghost use Rattle.cvc_flat.specs.Making.{AddsDevice, AreNetsWithin, AreRows, device_cause_in, instance_cause_in, known_nets, net_of_opening, NumbersPins};
 ghost use Rattle.cvc_names.specs.Names.{AreApart};
-ghost use Rattle.cvc_flat.specs.Nets.{global_names};
-ghost use Rattle.cvc_flat.specs.Pins.{ArePins, IsPinWithin, pin_row};
-ghost use Rattle.cvc_flat.specs.Planning.{IsDevicePlan, IsPlan, opening_of};
 ghost use Rattle.cvc_flat.specs.Sharing.{IsShared};
-ghost use Rattle.cvc_flat.specs.declared.cards.Plan.{Plan};
 ghost use Rattle.cvc_flat.specs.declared.rows.InstanceRow.{InstanceRow};
 
-use crate::cards::Plan;
 use crate::nets::NetTable;
-use crate::pins::Pin;
-use crate::plan::DevicePlan;
-use crate::ports::net_of_pin;
-use crate::rows::{DeviceRow, Group, InstanceRow, NetRow};
+use crate::rows::{DeviceRow, Group, InstanceRow};
 use crate::shared::group_of;
 use arrayvec::ArrayVec;
 use cvc_base::{Cause, Fault, FileKind, NetId, NoMemory, Refusal};
 use cvc_card::DeviceCard;
 use cvc_cdl::{Cell, Netlist};
 use cvc_params::{PairLists, Sight};
+use cvc_plan::{DevicePlan, NetRow, Pin, Plan, net_of_pin};
 use std::alloc::Global;
 
 // What is walked: a netlist, the cell that is its top, its plan, and its lists of pairs.

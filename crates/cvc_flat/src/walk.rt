@@ -5,22 +5,21 @@ ghost use Rattle.cvc_cdl.specs.WellFormed.{IsWellFormed};
 ghost use Rattle.cvc_cdl.specs.Instances.{all_cells, cell_at};
 ghost use Rattle.cvc_params.specs.PairLists.{AreListed};
 ghost use Rattle.cvc_params.specs.Sights.{IsSight};
+ghost use Rattle.cvc_plan.specs.Planning.{IsPlan};
 ghost use Rattle.cvc_flat.specs.Flat.{flat_of, limits, nets_behind, visits_of, walk_fault};
 ghost use Rattle.cvc_flat.specs.Making.{Shows, known_nets, tables_of};
-ghost use Rattle.cvc_flat.specs.Planning.{IsPlan};
 ghost use Rattle.cvc_flat.specs.Tables.{IsSound, held_of};
 
 use crate::Flat;
-use crate::cards::{ItemPlan, Plan, cell_of, plan_of};
 use crate::finder::Finder;
 use crate::nets::NetTable;
-use crate::ports::{join, ports_from, top_ports};
 use crate::rows::InstanceRow;
 use crate::shared::no_groups;
 use crate::steps::{Made, Source, enter, opened, place};
 use cvc_base::{NoMemory, Refusal, Text};
 use cvc_cdl::{Cell, Item, Netlist};
 use cvc_params::{Level, Lists, Sight, lists_of};
+use cvc_plan::{ItemPlan, Plan, cell_of, join, plan_of, ports_from, top_ports};
 use std::alloc::Global;
 
 // Where the walk stands in an instance: the next item of its cell, whose plan has this number and whose ports begin at `first`.

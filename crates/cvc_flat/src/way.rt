@@ -2,13 +2,15 @@
 ghost use Rattle.std.specs.Prelude.{◌≡◌, ◌<◌, ◌≤◌, All, length};
 ghost use Rattle.cvc_io.specs.Causes.{HasCause};
 ghost use Rattle.cvc_cdl.specs.Instances.{printed};
+ghost use Rattle.cvc_plan.specs.Parts.{text};
 ghost use Rattle.cvc_flat.specs.Answers.{WritesText};
-ghost use Rattle.cvc_flat.specs.Tables.{IsTree, names_on, text, way_at, ways_of};
+ghost use Rattle.cvc_flat.specs.Tables.{IsTree, names_on, way_at, ways_of};
 
-use crate::rows::{InstancePart, InstanceRow};
+use crate::rows::InstanceRow;
 use arrayvec::ArrayVec;
 use cvc_io::{Sink, WriteFailed};
 use cvc_names::Names;
+use cvc_plan::InstancePart;
 
 // Writes the whole text, as far as the sink takes it.
 pub(crate) fn write_all<K: Sink>(sink: &mut K, text: &[u8]) -> Result<(), WriteFailed>

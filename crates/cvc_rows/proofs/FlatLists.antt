@@ -19,7 +19,7 @@ use Rattle.cvc_cdl.specs.Building.{cause_of, fault_at}
 use Rattle.cvc_cdl.specs.Ending.{instances, first_instance_fault, has_chain, is_endless, ending_fault}
 use Rattle.cvc_cdl.specs.File.{entries_from, entries_of, file_of, then_with}
 use Rattle.cvc_cdl.specs.Instances.{printed}
-use Rattle.cvc_flat.specs.Nets.{Net, net_of}
+use Rattle.cvc_plan.specs.Nets.{Net, net_of}
 use Rattle.cvc_params.specs.Params.{last_text, value_in, params_in}
 use Rattle.cvc_params.specs.Places.{comes_twice, places}
 use Rattle.cvc_flat.specs.Walk.{walk}

@@ -2,15 +2,15 @@ use Rattle.std.proofs.Common.{◌≡◌, ℕ, ◌+◌, ◌-◌, ◌<◌, List, [
 use Rattle.std.specs.Prelude.{IfSome, Option, None, Some}
 use Rattle.std.specs.Option.{option_and_then, option_map}
 use Rattle.std.proofs.lemmas.List.{length-drop, length-map, take_all}
+use Rattle.cvc_plan.specs.Nets.{Net, Path, net_of}
+use Rattle.cvc_plan.proofs.Lists.{place_below, text_at_place}
 use Rattle.cvc_flat.specs.FindNet.{net_named, number_among, pieces}
 use Rattle.cvc_flat.specs.Finder.{net_hash, way_hash}
 use Rattle.cvc_names.specs.Names.{place_of}
-use Rattle.cvc_flat.specs.Nets.{Net, Path, net_of}
 use Rattle.cvc_flat.specs.Resolving.{is_row}
 use Rattle.cvc_flat.specs.Tables.{Way, names_on, net_at, path_of, way_at, ways_of}
 use Rattle.cvc_flat.proofs.Finding.{last_step, not_listed, number_row, own_net, slash_step}
 use Rattle.cvc_flat.proofs.Hashed.{count_ways, found_first, net_hash_is, no_net, row_hash}
-use Rattle.cvc_flat.proofs.Lists.{place_below, text_at_place}
 use Rattle.cvc_flat.proofs.Naming.{child_names, named_here, no_child, nothing_behind}
 use Rattle.cvc_flat.proofs.Ways.{all_on_way, way_top}
 use Rattle.cvc_flat.proofs.find.first_named.Goals as goal

@@ -2,13 +2,13 @@ use Rattle.std.proofs.Common.{rules, ◌<◌, List, ℕ, length, sym, ap, subst,
 use Rattle.std.specs.Prelude.{IfSome}
 use Rattle.std.specs.Str.{bytes_eq}
 use Rattle.std.proofs.lemmas.List.{length-map}
-use Rattle.cvc_flat.specs.declared.rows.NetRow.{NetRow}
+use Rattle.cvc_plan.specs.declared.rows.NetRow.{NetRow}
+use Rattle.cvc_plan.specs.Nets.{Net}
+use Rattle.cvc_plan.proofs.Lists.{place_map}
 use Rattle.cvc_flat.specs.FindNet.{printed_net}
 use Rattle.cvc_flat.specs.Finder.{net_hash}
-use Rattle.cvc_flat.specs.Nets.{Net}
 use Rattle.cvc_flat.specs.Tables.{net_at, ways_of}
 use Rattle.cvc_flat.proofs.Hashed.{found_first, no_net, printed_hash}
-use Rattle.cvc_flat.proofs.Lists.{place_map}
 use Rattle.cvc_flat.proofs.find.first_printed.Goals as goal
 
 pub returns-clause-inside : goal.returns-clause-inside

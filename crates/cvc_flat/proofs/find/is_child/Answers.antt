@@ -1,8 +1,8 @@
 use Rattle.std.proofs.Common.{◌-◌, ◌<◌, length, get_or, sym, ap, ◌∙◌, arith}
 use Rattle.std.specs.Cmp.Lexicographic.{bytes_decides}
-use Rattle.cvc_flat.specs.Nets.{name_of_link}
+use Rattle.cvc_plan.specs.Nets.{name_of_link}
+use Rattle.cvc_plan.proofs.Parts.{link_is}
 use Rattle.cvc_flat.specs.Tables.{no_row}
-use Rattle.cvc_flat.proofs.Writing.{link_is}
 use Rattle.cvc_flat.proofs.find.is_child.Goals as goal
 
 pub returns-then-row-up-clause-yes : goal.returns-then-row-up-clause-yes

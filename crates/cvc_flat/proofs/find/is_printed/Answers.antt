@@ -2,11 +2,12 @@ use Rattle.std.proofs.Common.{◌≡◌, ℕ, ◌+◌, ◌-◌, ◌<◌, ◌++�
 use Rattle.std.specs.Prelude.{codes}
 use Rattle.std.specs.Str.{bytes_eq}
 use Rattle.cvc_cdl.specs.Instances.{printed}
-use Rattle.cvc_flat.specs.Nets.{name_of_link}
-use Rattle.cvc_flat.specs.Tables.{Way, link_at, names_on, no_row, way_at, way_in, ways_of}
+use Rattle.cvc_plan.specs.Nets.{name_of_link}
+use Rattle.cvc_plan.specs.Parts.{link_at}
+use Rattle.cvc_plan.proofs.Parts.{link_is}
+use Rattle.cvc_flat.specs.Tables.{Way, names_on, no_row, way_at, way_in, ways_of}
 use Rattle.cvc_flat.proofs.Stripping.{empty_is, front_more, printed_split, strip_no, strip_yes}
 use Rattle.cvc_flat.proofs.Ways.{way_step, way_top}
-use Rattle.cvc_flat.proofs.Writing.{link_is}
 use Rattle.cvc_flat.proofs.find.is_printed.Goals as goal
 
 pub returns-in_default : goal.returns-in_default

@@ -4,9 +4,10 @@ use Rattle.std.specs.List.{flat_map}
 use Rattle.std.proofs.lemmas.List.{append-nil}
 use Rattle.std.proofs.lemmas.List.Concat.{flat_map-append}
 use Rattle.cvc_cdl.specs.Instances.{printed}
-use Rattle.cvc_flat.specs.declared.rows.InstancePart.{InstancePart}
-use Rattle.cvc_flat.specs.Tables.{names_on, text, way_at, ways_of}
-use Rattle.cvc_flat.proofs.Lists.{all_front, all_last}
+use Rattle.cvc_plan.specs.declared.rows.InstancePart.{InstancePart}
+use Rattle.cvc_plan.specs.Parts.{text}
+use Rattle.cvc_plan.proofs.Lists.{all_front, all_last}
+use Rattle.cvc_flat.specs.Tables.{names_on, way_at, ways_of}
 use Rattle.cvc_flat.proofs.Ways.{all_on_way}
 use Rattle.cvc_flat.proofs.Writing.{path_last}
 use Rattle.cvc_flat.proofs.printing.set_pieces.Goals as goal

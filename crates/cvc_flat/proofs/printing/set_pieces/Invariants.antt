@@ -2,7 +2,8 @@ use Rattle.std.proofs.Common.{◌≡◌, ◌+◌, ◌*◌, ◌≤◌, ◌<◌, �
 use Rattle.std.specs.Prelude.{All}
 use Rattle.std.specs.List.{flat_map}
 use Rattle.cvc_cdl.specs.Instances.{printed}
-use Rattle.cvc_flat.specs.Tables.{names_on, text, way_at, ways_of}
+use Rattle.cvc_plan.specs.Parts.{text}
+use Rattle.cvc_flat.specs.Tables.{names_on, way_at, ways_of}
 use Rattle.cvc_flat.proofs.printing.set_pieces.Given as goal
 
 abbrev pub invariant-loop-card : goal.invariant-loop-card

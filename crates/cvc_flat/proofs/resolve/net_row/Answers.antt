@@ -1,8 +1,9 @@
 use Rattle.std.proofs.Common.{◌≡◌, ℕ, ◌+◌, ◌-◌, ◌<◌, [], length, take, get_or, sym, ap, subst, ◌∙◌, arith}
 use Rattle.std.specs.Prelude.{None, Some}
-use Rattle.cvc_flat.specs.Nets.{net_of, net_within}
+use Rattle.cvc_plan.specs.Nets.{net_of, net_within}
+use Rattle.cvc_plan.specs.Parts.{IsPart, text}
 use Rattle.cvc_flat.specs.Resolving.{net_beside}
-use Rattle.cvc_flat.specs.Tables.{IsPart, Way, names_on, no_row, path_of, text, way_at, way_in, ways_of}
+use Rattle.cvc_flat.specs.Tables.{Way, names_on, no_row, path_of, way_at, way_in, ways_of}
 use Rattle.cvc_flat.proofs.Resolving.{beside_inside, connected_step, global_step, own_step, top_step}
 use Rattle.cvc_flat.proofs.Ways.{way_step, way_top}
 use Rattle.cvc_flat.proofs.resolve.net_row.Goals as goal

@@ -1,7 +1,8 @@
 use Rattle.std.proofs.Common.{◌≡◌, ℕ, ◌<◌, ◌≤◌, List, length, take}
-use Rattle.cvc_flat.specs.Nets.{net_of}
+use Rattle.cvc_plan.specs.Nets.{net_of}
+use Rattle.cvc_plan.specs.Parts.{text}
 use Rattle.cvc_flat.specs.Resolving.{AreNames}
-use Rattle.cvc_flat.specs.Tables.{path_of, text, way_at, ways_of}
+use Rattle.cvc_flat.specs.Tables.{path_of, way_at, ways_of}
 use Rattle.cvc_flat.proofs.resolve.net_row.Given as goal
 
 abbrev pub invariant-loop-at : goal.invariant-loop-at

@@ -3,12 +3,12 @@ use Rattle.std.specs.Prelude.{All}
 use Rattle.std.proofs.lemmas.List.{get_or-map, length-map}
 use Rattle.cvc_base.specs.declared.cause.Cause.TheVariants.{TooManyNets}
 use Rattle.cvc_cdl.specs.Building.{fault_at}
-use Rattle.cvc_flat.specs.declared.cards.OpeningPlan.{OpeningPlan}
-use Rattle.cvc_flat.specs.declared.rows.NetRow.{NetRow}
-use Rattle.cvc_flat.specs.Flat.{Opening, limits, nets_once, opening_fault}
+use Rattle.cvc_plan.specs.declared.cards.OpeningPlan.{OpeningPlan}
+use Rattle.cvc_plan.specs.declared.rows.NetRow.{NetRow}
+use Rattle.cvc_plan.specs.Nets.{Net, Opening}
+use Rattle.cvc_plan.specs.Planning.{opening_of}
+use Rattle.cvc_flat.specs.Flat.{limits, nets_once, opening_fault}
 use Rattle.cvc_flat.specs.Making.{known_nets}
-use Rattle.cvc_flat.specs.Nets.{Net}
-use Rattle.cvc_flat.specs.Planning.{opening_of}
 use Rattle.cvc_flat.proofs.Openings.{fault_opened, fault_past, known_length, next_known, no_opening_fault, opened_inside, opened_row, opens_none, refuses_opening}
 use Rattle.cvc_flat.specs.contracts.nets.NetTable.{the_row}
 use Rattle.cvc_flat.proofs.steps.opened.Goals as goal

@@ -1,9 +1,9 @@
 use Rattle.std.proofs.Common.{◌≡◌, ◌<◌, ◌≤◌, [], length, map, drop}
 use Rattle.std.specs.Prelude.{All}
-use Rattle.cvc_flat.specs.declared.rows.NetRow.{NetRow}
+use Rattle.cvc_plan.specs.declared.rows.NetRow.{NetRow}
+use Rattle.cvc_plan.specs.Planning.{opening_of}
 use Rattle.cvc_flat.specs.Flat.{limits, opening_fault}
 use Rattle.cvc_flat.specs.Making.{known_nets}
-use Rattle.cvc_flat.specs.Planning.{opening_of}
 use Rattle.cvc_flat.proofs.Openings.{nets_to}
 use Rattle.cvc_flat.proofs.steps.opened.Given as goal
 

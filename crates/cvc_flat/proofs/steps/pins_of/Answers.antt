@@ -1,8 +1,8 @@
 use Rattle.std.proofs.Common.{List, [], length, map, take, refl, sym, ap, subst, ◌∙◌, arith}
 use Rattle.std.proofs.lemmas.List.{take_all}
+use Rattle.cvc_plan.specs.Nets.{Net}
+use Rattle.cvc_plan.specs.Pins.{pin_row}
 use Rattle.cvc_flat.specs.Making.{AreNetsWithin, NumbersPins, known_nets}
-use Rattle.cvc_flat.specs.Nets.{Net}
-use Rattle.cvc_flat.specs.Pins.{pin_row}
 use Rattle.cvc_flat.specs.Tables.{net_at, ways_of}
 use Rattle.cvc_flat.proofs.Joined.{pin_next}
 use Rattle.cvc_flat.proofs.Numbered.{pins_more, pins_none}

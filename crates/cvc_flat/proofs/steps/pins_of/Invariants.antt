@@ -1,8 +1,8 @@
 use Rattle.std.proofs.Common.{◌≡◌, List, length, map, take}
-use Rattle.cvc_flat.specs.declared.cards.Plan.{Plan}
+use Rattle.cvc_plan.specs.declared.cards.Plan.{Plan}
+use Rattle.cvc_plan.specs.Pins.{pin_row}
 use Rattle.cvc_flat.specs.declared.rows.InstanceRow.{InstanceRow}
 use Rattle.cvc_flat.specs.Making.{AreNetsWithin, AreRows, NumbersPins, known_nets}
-use Rattle.cvc_flat.specs.Pins.{pin_row}
 use Rattle.cvc_flat.proofs.steps.pins_of.Given as goal
 
 abbrev pub invariant-loop-pin : goal.invariant-loop-pin

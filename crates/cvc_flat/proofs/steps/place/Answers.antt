@@ -7,14 +7,14 @@ use Rattle.cvc_cdl.specs.declared.netlist.Netlist.{Netlist}
 use Rattle.cvc_cdl.specs.Instances.{Instance}
 use Rattle.cvc_params.specs.Levels.{instance_of}
 use Rattle.cvc_params.specs.Places.{has_loop}
-use Rattle.cvc_flat.specs.declared.cards.Plan.{Plan}
+use Rattle.cvc_plan.specs.declared.cards.Plan.{Plan}
+use Rattle.cvc_plan.specs.declared.rows.NetRow.{NetRow}
+use Rattle.cvc_plan.specs.Nets.{Net, global_names}
 use Rattle.cvc_flat.specs.declared.rows.InstanceRow.{InstanceRow}
-use Rattle.cvc_flat.specs.declared.rows.NetRow.{NetRow}
 use Rattle.cvc_flat.specs.declared.steps.Made.{Made}
 use Rattle.cvc_flat.specs.Flat.{limits, nets_once, pins_of}
 use Rattle.cvc_flat.specs.Joining.{IsHost}
 use Rattle.cvc_flat.specs.Making.{AreRows, device_cause_in, known_nets}
-use Rattle.cvc_flat.specs.Nets.{Net, global_names}
 use Rattle.cvc_flat.specs.Sharing.{IsGroupOf, TakesGroup}
 use Rattle.cvc_flat.proofs.Added.{device_added, known_length}
 use Rattle.cvc_flat.proofs.Causes.{cause_loop, cause_nets, cause_none, refuses_at}

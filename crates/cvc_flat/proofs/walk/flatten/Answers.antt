@@ -2,10 +2,11 @@ use Rattle.std.proofs.Common.{◌≡◌, List, [], map, sym, ap, subst, ◌∙�
 use Rattle.std.specs.Prelude.{Ok, Err, None}
 use Rattle.std.proofs.lemmas.Result.{err_from_is_err_and}
 use Rattle.cvc_base.specs.Answers.{Refuses}
+use Rattle.cvc_plan.specs.Nets.{Opening}
 use Rattle.cvc_flat.specs.declared.nets.NetTable.{NetTable}
 use Rattle.cvc_flat.specs.declared.flat.Flat.{Flat}
 use Rattle.cvc_flat.specs.declared.walk.Walked.{Walked}
-use Rattle.cvc_flat.specs.Flat.{Opening, limits, nets_once, opening_fault, openings, visits_of}
+use Rattle.cvc_flat.specs.Flat.{limits, nets_once, opening_fault, openings, visits_of}
 use Rattle.cvc_flat.specs.Held.{Held}
 use Rattle.cvc_flat.specs.Making.{net_of_opening}
 use Rattle.cvc_flat.proofs.Whole.{at_opening, at_walk, nets_first, no_fault, shown_list}

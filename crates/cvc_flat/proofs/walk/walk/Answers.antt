@@ -8,18 +8,18 @@ use Rattle.cvc_cdl.specs.Building.{fault_at}
 use Rattle.cvc_cdl.specs.WellFormed.{IsFormedItem}
 use Rattle.cvc_cdl.specs.Instances.{all_cells}
 use Rattle.cvc_params.specs.Levels.{instance_of}
-use Rattle.cvc_flat.specs.declared.cards.ItemPlan.TheVariants as plans
-use Rattle.cvc_flat.specs.declared.cards.OpeningPlan.{OpeningPlan}
-use Rattle.cvc_flat.specs.declared.pins.PortPlan.{PortPlan}
+use Rattle.cvc_plan.specs.declared.cards.ItemPlan.TheVariants as plans
+use Rattle.cvc_plan.specs.declared.cards.OpeningPlan.{OpeningPlan}
+use Rattle.cvc_plan.specs.declared.pins.PortPlan.{PortPlan}
+use Rattle.cvc_plan.specs.Nets.{global_names}
+use Rattle.cvc_plan.specs.Pins.{ArePins, IsPlanWithin, port_row, row_of_opening}
+use Rattle.cvc_plan.specs.Planning.{IsInstPlan, IsItemPlan}
 use Rattle.cvc_flat.specs.declared.walk.Mark.{Mark}
 use Rattle.cvc_flat.specs.declared.walk.Walked.{Walked}
 use Rattle.cvc_flat.specs.Flat.{limits}
 use Rattle.cvc_flat.specs.Joining.{IsHost}
 use Rattle.cvc_flat.specs.Joining.{ArePorts}
 use Rattle.cvc_flat.specs.Making.{instance_cause_in}
-use Rattle.cvc_flat.specs.Nets.{global_names}
-use Rattle.cvc_flat.specs.Pins.{ArePins, IsPlanWithin, port_row, row_of_opening}
-use Rattle.cvc_flat.specs.Planning.{IsInstPlan, IsItemPlan}
 use Rattle.cvc_flat.proofs.Hosting.{first_inside, globals_open, host_here, mine_long, plans_inside, ports_begin, ports_of_cell, ports_pops, state_joined}
 use Rattle.cvc_flat.proofs.Joined.{ports_step}
 use Rattle.cvc_flat.proofs.States.{IsState, fault_device, fault_instance, item_formed, item_planned, items_planned, plan_inside, same_item, state_begins, state_device, state_done, state_pops}

@@ -4,9 +4,10 @@ use Rattle.std.specs.Io.KnownBytes.{append_known}
 use Rattle.std.proofs.lemmas.Bool.{false≢true}
 use Rattle.std.proofs.lemmas.Result.{err_from_is_err_and}
 use Rattle.cvc_cdl.specs.Instances.{printed}
-use Rattle.cvc_flat.specs.declared.rows.InstancePart.{InstancePart}
-use Rattle.cvc_flat.specs.Tables.{names_on, text, way_at, ways_of}
-use Rattle.cvc_flat.proofs.Lists.{all_front, all_last, empty_of}
+use Rattle.cvc_plan.specs.declared.rows.InstancePart.{InstancePart}
+use Rattle.cvc_plan.specs.Parts.{text}
+use Rattle.cvc_plan.proofs.Lists.{all_front, all_last, empty_of}
+use Rattle.cvc_flat.specs.Tables.{names_on, way_at, ways_of}
 use Rattle.cvc_flat.proofs.Ways.{all_on_way}
 use Rattle.cvc_flat.proofs.Writing.{known_nil, part_behind, path_last, twice_known, writes_last}
 use Rattle.cvc_flat.proofs.way.write_path.Goals as goal

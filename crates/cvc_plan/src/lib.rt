@@ -1,0 +1,16 @@
+//! The plan of a netlist: what is kept of its cards, of each once, with their names by numbers.
+//! What a net is, and what a plan keeps, is written in `specs/`; `plan_of` makes a plan, and the nets of pins and ports follow from it.
+#![tactic(auto)]
+
+mod cards;
+mod names;
+mod pins;
+mod plan;
+mod ports;
+mod rows;
+
+pub use cards::{Cards, CellPlan, InstPlan, ItemPlan, OpeningPlan, Plan, cell_of, plan_of};
+pub use pins::{Pin, PortPlan};
+pub use plan::DevicePlan;
+pub use ports::{join, net_of_pin, ports_from, top_ports};
+pub use rows::{Connection, DevicePart, InstancePart, NetRow};
