@@ -17,7 +17,7 @@ pub fn hash_of(text: &[u8]) -> u32
     (hasher.finish() & 0xffff_ffff) as u32
 }
 
-// The bucket of a hash. The number of buckets is a power of two, so that all bits of that length count.
+// The bucket of a hash. The number of buckets is a power of two: of another number some would stay empty.
 #[tactic(auto, using(std::proofs::lemmas::Nat::and_le_r), unfolding(crate::specs::Chains::bucket_of))]
 fn bucket_of(hash: u32, buckets: usize) -> usize
     requires { 0 < buckets }
@@ -39,7 +39,7 @@ fn put_in_front(hashes: &[u32], heads: &mut [u32], links: &mut [u32], place: usi
     heads[bucket] = place as u32 + 1;
 }
 
-// Makes twice as many buckets where all are needed, and chains the places anew.
+// Where there are as many places as buckets, makes twice as many buckets and chains the places anew.
 fn widen(
     alloc: Global,
     hashes: &[u32],
@@ -78,14 +78,15 @@ fn put_last(hashes: &mut Vec<u32>, heads: &mut [u32], links: &mut Vec<u32>, hash
     put_in_front(hashes, heads, links, place);
 }
 
-/// A list of hashes that grows, whose places are looked up by their hashes. Contracts see the hashes in the order in which they came.
+/// A list of hashes that grows, whose places are looked up by their hashes. A place takes 12 to 24 bytes. Contracts see the hashes in the order in which
+/// they came.
 #[derive(Drop)]
 pub struct Chains {
     alloc: Global,
     hashes: Vec<u32>,
-    // for each bucket the link to its newest place
+    // A link is a place and one, or 0 where there is none. Each bucket has the link to its newest place,
     heads: Vec<u32>,
-    // for each place the link to the next older one of its bucket
+    // and each place the link to the next older one of its bucket.
     links: Vec<u32>,
 }
 
@@ -120,8 +121,8 @@ impl Chains {
         self.hashes.len()
     }
 
-    /// Puts a place last, of this hash. Without memory, and where there are 2^32 - 1 places, the list stays as it was. All pushes together take
-    /// time in proportion to their number.
+    /// Puts a place of this hash last. Without memory, and where there are 2^32 - 1 places, the list stays as it was. All pushes together take time in
+    /// proportion to the number of places.
     pub fn push(&mut self, hash: u32) -> Result<(), NoMemory>
         ensures ok { OnOk result (self.new ≡ self.old ++ hash ∷ []) }
         ensures err { OnErr result (self.new ≡ self.old) }

@@ -13,9 +13,9 @@ use std::marker::Model;
 /// the order in which they came.
 #[derive(Drop)]
 pub struct Names {
-    // all names, one behind another
+    // All names, one behind another,
     bytes: Vec<u8>,
-    // for each name where it ends
+    // and where each of them ends.
     ends: Vec<u32>,
     chains: Chains,
 }
@@ -102,7 +102,7 @@ impl Names {
         text_at(&self.bytes, &self.ends, k)
     }
 
-    // Puts a new name last, which has this hash.
+    // Puts a new name last, which has this hash. All room that it takes is made first, so that the table is as it was where there is none.
     fn push(&mut self, hash: u32, name: &[u8]) -> Result<(), NoMemory>
         requires hash { hash ≡ text_hash name.now }
         requires new { place_of self.old name.now ≡ None }
