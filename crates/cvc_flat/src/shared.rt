@@ -10,7 +10,7 @@ ghost use Rattle.cvc_flat.specs.Sharing.{HasNoGroups, IsGroupOf, TakesGroup};
 use crate::rows::Group;
 use cvc_base::{NoMemory, Pairs};
 use cvc_cdl::{Cell, Netlist};
-use cvc_params::{Sight, are_plain, plain_params};
+use cvc_params::{Sight, plain_params};
 use std::alloc::Global;
 
 // For each item of a cell the group that all devices of its card share, once there is one.
@@ -62,8 +62,7 @@ pub(crate) fn group_of<'n>(
         return Ok(Some(group));
     }
     let group = groups.len() as u32;
-    if are_plain(pairs) {
-        let params = plain_params(alloc, pairs)?;
+    if let Some(params) = plain_params(alloc, pairs)? {
         groups.push(Group { model, params })?;
         *shared = Some(group);
         return Ok(Some(group));

@@ -1,5 +1,5 @@
 -- Values that are numbers as they stand.
-use Rattle.std.proofs.Common.{◌≡◌, ℕ, zero, suc, ◌+◌, ◌<◌, true, false, List, [], ◌∷◌, ◌++◌, length, take, get_or, refl, sym, ap, ◌∙◌, arith}
+use Rattle.std.proofs.Common.{◌≡◌, ℕ, zero, suc, ◌+◌, ◌<◌, ◌&&◌, Bool, true, false, List, [], ◌∷◌, ◌++◌, length, take, get_or, refl, sym, ap, ◌∙◌, arith}
 use Rattle.std.specs.Prelude.{Option, Some, None, is_none}
 use Rattle.std.proofs.lemmas.Bool.{and_parts}
 use Rattle.std.proofs.lemmas.Option.{none-some}
@@ -15,10 +15,28 @@ use Rattle.cvc_params.proofs.Listing.{param_found, params_more}
 use Rattle.cvc_params.proofs.Loops.{params_none}
 use Rattle.cvc_params.proofs.Sighting.{next_number}
 
-plain_at : (pairs : List Pair) (k : ℕ) (d : Pair) → are_plain pairs ≡ true → k < length pairs → has_number (get_or pairs k d) ≡ true
-plain_at [] k d all inside = absurd (omega arith)
-plain_at (p ∷ pairs) zero d all inside = (and_parts (has_number p) (are_plain pairs) all).0
-plain_at (p ∷ pairs) (suc k) d all inside = plain_at pairs k d (and_parts (has_number p) (are_plain pairs) all).1 (omega arith)
+-- one number more in front of the rest
+pub plain_front : (pairs : List Pair) (k : ℕ) (d : Pair) → k < length pairs → has_number (get_or pairs k d) ≡ true → are_plain (take k pairs) ≡ true → are_plain (take (k + 1) pairs) ≡ true
+plain_front pairs k d inside number all =
+    let next : k + 1 ≡ suc k = omega arith in
+    ap (λ (j : ℕ). are_plain (take j pairs)) next ∙ front pairs k inside number all
+  where
+    front : (pairs : List Pair) (k : ℕ) → k < length pairs → has_number (get_or pairs k d) ≡ true → are_plain (take k pairs) ≡ true → are_plain (take (suc k) pairs) ≡ true
+    front [] k inside number all = absurd (omega arith)
+    front (p ∷ pairs) zero inside number all = ap (λ (b : Bool). b && true) number
+    front (p ∷ pairs) (suc k) inside number all =
+        let parts = and_parts (has_number p) (are_plain (take k pairs)) all in
+        ap (λ (b : Bool). b && are_plain (take (suc k) pairs)) parts.0 ∙ front pairs k (omega arith) number parts.1
+
+-- where one value is no number
+pub plain_not : (pairs : List Pair) (k : ℕ) (d : Pair) → k < length pairs → has_number (get_or pairs k d) ≡ false → are_plain pairs ≡ false
+plain_not [] k d inside word = absurd (omega arith)
+plain_not (p ∷ pairs) zero d inside word = ap (λ (b : Bool). b && are_plain pairs) word
+plain_not (p ∷ pairs) (suc k) d inside word = ap (λ (b : Bool). has_number p && b) (plain_not pairs k d (omega arith) word) ∙ and_false (has_number p)
+  where
+    and_false : (b : Bool) → (b && false) ≡ false
+    and_false true = refl
+    and_false false = refl
 
 plain_param : (n : Netlist) (p : Instance) (pair : Pair) (q : Param) → has_number pair ≡ true → q ≡ record { name = pair.name; value = value_of_text pair.value } → Some q ≡ param_in n p pair
 plain_param n p pair q number is =
@@ -29,10 +47,9 @@ plain_param n p pair q number is =
 abbrev pub HaveParams : List Pair → List Param → Type 0
 HaveParams pairs params = (n : Netlist) (p : Instance) → params_in n p pairs ≡ Some params
 
-pub plain_more : (pairs : List Pair) (k : ℕ) (pair : Pair) (ps : List Param) (q : Param) → are_plain pairs ≡ true → k < length pairs → pair ≡ get_or pairs k pair
+pub plain_more : (pairs : List Pair) (k : ℕ) (pair : Pair) (ps : List Param) (q : Param) → has_number pair ≡ true → k < length pairs → pair ≡ get_or pairs k pair
     → q ≡ record { name = pair.name; value = value_of_text pair.value } → HaveParams (take k pairs) ps → HaveParams (take (k + 1) pairs) (ps ++ q ∷ [])
-plain_more pairs k pair ps q all inside here is before =
-    λ n p. params_more n p pairs k pair ps q inside here (before n p) (plain_param n p pair q (ap has_number here ∙ plain_at pairs k pair all inside) is)
+plain_more pairs k pair ps q number inside here is before = λ n p. params_more n p pairs k pair ps q inside here (before n p) (plain_param n p pair q number is)
 
 -- and none of them is a loop
 both_some : (q : Param) (o : Option Param) (ps : Option (List Param)) → Some q ≡ o → is_none ps ≡ false → is_none (and_all o ps) ≡ false

@@ -14,4 +14,4 @@ pub use level::Level;
 pub use pair_index::{PairIndex, PairIndexes};
 pub use pair_lists::{CellLists, PairLists, lists_of};
 pub use params::{Lists, Sight};
-pub use plain::{are_plain, plain_params};
+pub use plain::plain_params;
