@@ -102,7 +102,8 @@ impl Found {
 
     /// Adds what is found at the devices that come next.
     pub(crate) fn join(&mut self, next: &Found) -> Result<(), NoMemory>
-        ensures { (c : Network) (f : List Interval) (start middle end : ℕ) → AreFound c f start middle self.old → AreFound c f middle end next.now → OnOk result (AreFound c f start end self.new) }
+        ensures { (c : Network) (f : List Interval) (start middle end : ℕ) → AreFound c f start middle self.old → AreFound c f middle end next.now
+            → OnOk result (AreFound c f start end self.new) }
     {
         put_all(next.overvoltage_gs.as_slice(), &mut self.overvoltage_gs)?;
         put_all(next.overvoltage_gd.as_slice(), &mut self.overvoltage_gd)?;

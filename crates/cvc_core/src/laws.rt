@@ -38,8 +38,10 @@ pub fn every_event_keeps_a_state_sound()
 
 /// The same of the atomic steps of an actor that is at `a`, and of an actor that comes or goes.
 pub fn every_step_keeps_a_state_sound()
-    ensures step { (c : Network) (s : Machine) (k : ℕ) (i : Intent) (a : Actor) → Sound c s → k < length s.actors → actor_at s k ≡ a → IsAllowed c i a (found s (place_of c i a)) → Sound c (step_by c s k i a) }
-    ensures comes { (c : Network) (s : Machine) (k : ℕ) → Sound c s → k < length s.actors → actor_at s k ≡ Actor.Absent → Sound c (put_actor s k (Actor.Idle 0)) }
+    ensures step { (c : Network) (s : Machine) (k : ℕ) (i : Intent) (a : Actor) → Sound c s → k < length s.actors → actor_at s k ≡ a
+        → IsAllowed c i a (found s (place_of c i a)) → Sound c (step_by c s k i a) }
+    ensures comes { (c : Network) (s : Machine) (k : ℕ) → Sound c s → k < length s.actors → actor_at s k ≡ Actor.Absent
+        → Sound c (put_actor s k (Actor.Idle 0)) }
     ensures goes { (c : Network) (s : Machine) (k : ℕ) → Sound c s → actor_at s k ≡ Actor.Idle 0 → Sound c (put_actor s k Actor.Absent) }
 {}
 
@@ -52,15 +54,19 @@ pub fn the_start_is_sound()
 
 /// Every state that a list of events reaches from the start is sound.
 pub fn every_reached_state_is_sound()
-    ensures { (c : Network) (n : ℕ) (es : List Event) → IsCircuit c.fixed c.devices → n ≤ 64 → AreEnabled c (start c n) es → Sound c (after_all c (start c n) es) }
+    ensures { (c : Network) (n : ℕ) (es : List Event) → IsCircuit c.fixed c.devices → n ≤ 64 → AreEnabled c (start c n) es
+        → Sound c (after_all c (start c n) es) }
 {}
 
 /// Where the count is 0 the bounds are the least family, and no step and no event changes a bound, a mark or the count from there.
 pub fn a_quiet_state_is_the_least_family()
     ensures reaches { (c : Network) (s : Machine) → Sound c s → s.count ≡ 0 → IsReachLeast c s.bounds }
     ensures intervals { (c : Network) (s : Machine) → Sound c s → s.count ≡ 0 → IsLeast c (intervals c s.bounds) }
-    ensures steps_stay { (c : Network) (s : Machine) (k : ℕ) (i : Intent) (a : Actor) → Sound c s → s.count ≡ 0 → actor_at s k ≡ a → IsAllowed c i a (found s (place_of c i a)) → ((step_by c s k i a).bounds ≡ s.bounds) × ((step_by c s k i a).marks ≡ s.marks) × ((step_by c s k i a).count ≡ 0) }
-    ensures stays { (c : Network) (s : Machine) (e : Event) → Sound c s → s.count ≡ 0 → IsEnabled c s e → ((after c s e).bounds ≡ s.bounds) × ((after c s e).marks ≡ s.marks) × ((after c s e).count ≡ 0) }
+    ensures steps_stay { (c : Network) (s : Machine) (k : ℕ) (i : Intent) (a : Actor) → Sound c s → s.count ≡ 0 → actor_at s k ≡ a
+        → IsAllowed c i a (found s (place_of c i a))
+        → ((step_by c s k i a).bounds ≡ s.bounds) × ((step_by c s k i a).marks ≡ s.marks) × ((step_by c s k i a).count ≡ 0) }
+    ensures stays { (c : Network) (s : Machine) (e : Event) → Sound c s → s.count ≡ 0 → IsEnabled c s e
+        → ((after c s e).bounds ≡ s.bounds) × ((after c s e).marks ≡ s.marks) × ((after c s e).count ≡ 0) }
 {}
 
 /// The intervals of a sound state are a family of the circuit, within every closed family and so within the least one.
@@ -78,7 +84,8 @@ pub fn no_reach_is_beyond_the_widest()
 
 /// The bounds that `State::bound` answers of a net are those of the intervals that the other laws speak of.
 pub fn the_bounds_of_a_state_are_its_intervals()
-    ensures { (c : Network) (s : Measured) (n : ℕ) → IsSoundOn c s → interval_at (intervals c s.machine.bounds) n ≡ record { low = bound_at s n Low; high = bound_at s n High } }
+    ensures { (c : Network) (s : Measured) (n : ℕ) → IsSoundOn c s → interval_at (intervals c s.machine.bounds) n
+        ≡ record { low = bound_at s n Low; high = bound_at s n High } }
 {}
 
 /// The count is at least each actor's credits, and at most the number of devices and twice that of the actors.
@@ -95,7 +102,8 @@ pub fn bounds_only_widen()
 
 /// A step changes one word and no other.
 pub fn a_step_changes_one_word()
-    ensures same { (s : Machine) (q : Place) (x k : ℕ) (a : Actor) → ((b : ℕ) → q ≡ BoundWord b → b < length s.bounds) → ((d : ℕ) → q ≡ MarkWord d → d < length s.marks) → found (put_actor (put s q x) k a) q ≡ x }
+    ensures same { (s : Machine) (q : Place) (x k : ℕ) (a : Actor) → ((b : ℕ) → q ≡ BoundWord b → b < length s.bounds)
+        → ((d : ℕ) → q ≡ MarkWord d → d < length s.marks) → found (put_actor (put s q x) k a) q ≡ x }
     ensures other { (s : Machine) (q p : Place) (x k : ℕ) (a : Actor) → p ≢ q → found (put_actor (put s q x) k a) p ≡ found s p }
     ensures actor { (s : Machine) (k : ℕ) (a : Actor) (p : Place) → found (put_actor s k a) p ≡ found s p }
 {}

@@ -38,7 +38,9 @@ impl<'c> Field<'c> {
         ensures family { IsFamily self.entry.circuit.now (family_of result) }
         ensures within { (f : List Interval) → IsFamily self.entry.circuit.now f → IsClosed self.entry.circuit.now f → IsWithin (family_of result) f }
         ensures least { is_quiet hand.trail ≡ true → IsLeast self.entry.circuit.now (family_of result) }
-        ensures given { (n : ℕ) (side : Side) (v : ℤ) → n < nets self.entry.circuit.now → is_declared self.entry.circuit.now n ≡ false → bound_on (side_number side) (interval_at (family_of result) n) ≡ Some v → gave (bound_index n side) (reach_of self.entry.circuit.now (side_number side) (Some v)) hand.trail ≡ true }
+        ensures given { (n : ℕ) (side : Side) (v : ℤ) → n < nets self.entry.circuit.now → is_declared self.entry.circuit.now n ≡ false
+            → bound_on (side_number side) (interval_at (family_of result) n) ≡ Some v
+            → gave (bound_index n side) (reach_of self.entry.circuit.now (side_number side) (Some v)) hand.trail ≡ true }
     {
         let Field { circuit, table } = self;
         let nets = circuit.nets();

@@ -39,7 +39,8 @@ impl<'c> Field<'c> {
     /// Loads a bound that the seat's device reads.
     pub(crate) fn load(&self, seat: &mut Seat<(), View>, bound: usize, read: u8) -> u64
         requires seat { IsSeatOf self.now seat.old }
-        requires bound { (bound < width self.now.circuit.now) × (bound ≡ read_place (device_at self.now.circuit.now (run_of seat.old.me.0.actor).device.0) read) }
+        requires bound { (bound < width self.now.circuit.now)
+            × (bound ≡ read_place (device_at self.now.circuit.now (run_of seat.old.me.0.actor).device.0) read) }
         requires allowed { (x : ℕ) → IsAllowed self.now.circuit.now (Read read) seat.old.me.0.actor x }
         ensures seat { IsSeatOf self.now seat.new }
         ensures step { seat.new.me.0 ≡ advance (Read read) seat.old.me.0 result }
@@ -59,8 +60,10 @@ impl<'c> Field<'c> {
         operand: u64,
     ) -> u64
         requires seat { IsSeatOf self.now seat.old }
-        requires bound { (bound < width self.now.circuit.now) × (bound ≡ target_place (device_at self.now.circuit.now (run_of seat.old.me.0.actor).device.0) slot) × (slot % 2 ≡ 0) }
-        requires operand { (operand ≡ word_of self.now.circuit.now 0 (offer self.now.circuit.now (run_of seat.old.me.0.actor) slot)) × (offer self.now.circuit.now (run_of seat.old.me.0.actor) slot ≤ widest self.now.circuit.now) }
+        requires bound { (bound < width self.now.circuit.now)
+            × (bound ≡ target_place (device_at self.now.circuit.now (run_of seat.old.me.0.actor).device.0) slot) × (slot % 2 ≡ 0) }
+        requires operand { (operand ≡ word_of self.now.circuit.now 0 (offer self.now.circuit.now (run_of seat.old.me.0.actor) slot))
+            × (offer self.now.circuit.now (run_of seat.old.me.0.actor) slot ≤ widest self.now.circuit.now) }
         requires allowed { (x : ℕ) → IsAllowed self.now.circuit.now (Widen slot) seat.old.me.0.actor x }
         ensures seat { IsSeatOf self.now seat.new }
         ensures step { seat.new.me.0 ≡ advance (Widen slot) seat.old.me.0 result }
@@ -80,8 +83,10 @@ impl<'c> Field<'c> {
         operand: u64,
     ) -> u64
         requires seat { IsSeatOf self.now seat.old }
-        requires bound { (bound < width self.now.circuit.now) × (bound ≡ target_place (device_at self.now.circuit.now (run_of seat.old.me.0.actor).device.0) slot) × (slot % 2 ≡ 1) }
-        requires operand { (operand ≡ word_of self.now.circuit.now 1 (offer self.now.circuit.now (run_of seat.old.me.0.actor) slot)) × (offer self.now.circuit.now (run_of seat.old.me.0.actor) slot ≤ widest self.now.circuit.now) }
+        requires bound { (bound < width self.now.circuit.now)
+            × (bound ≡ target_place (device_at self.now.circuit.now (run_of seat.old.me.0.actor).device.0) slot) × (slot % 2 ≡ 1) }
+        requires operand { (operand ≡ word_of self.now.circuit.now 1 (offer self.now.circuit.now (run_of seat.old.me.0.actor) slot))
+            × (offer self.now.circuit.now (run_of seat.old.me.0.actor) slot ≤ widest self.now.circuit.now) }
         requires allowed { (x : ℕ) → IsAllowed self.now.circuit.now (Widen slot) seat.old.me.0.actor x }
         ensures seat { IsSeatOf self.now seat.new }
         ensures step { seat.new.me.0 ≡ advance (Widen slot) seat.old.me.0 result }

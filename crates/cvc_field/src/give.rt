@@ -48,7 +48,8 @@ impl<'c> Field<'c> {
         requires device { d.0 < devices self.now.circuit.now }
         requires owing { IsOwing self.now.circuit.now d.0 true seat.old.me.0.actor }
         ensures seat { IsSeatOf self.now seat.new }
-        ensures actor { seat.new.me.0.actor ≡ Running (with_debt (next_debt self.now.circuit.now (debt_of (run_of seat.old.me.0.actor).owes)) result (run_of seat.old.me.0.actor)) }
+        ensures actor { seat.new.me.0.actor
+            ≡ Running (with_debt (next_debt self.now.circuit.now (debt_of (run_of seat.old.me.0.actor).owes)) result (run_of seat.old.me.0.actor)) }
         ensures goes { Goes seat.old.me.0 seat.new.me.0 (if result then [] else d ∷ []) }
     {
         let found = self.set_queued(seat, d);
@@ -62,7 +63,8 @@ impl<'c> Field<'c> {
         requires device { d.0 < devices self.now.circuit.now }
         requires owing { IsOwing self.now.circuit.now d.0 spare seat.old.me.0.actor }
         ensures seat { IsSeatOf self.now seat.new }
-        ensures actor { seat.new.me.0.actor ≡ Running (with_debt (next_debt self.now.circuit.now (debt_of (run_of seat.old.me.0.actor).owes)) result (run_of seat.old.me.0.actor)) }
+        ensures actor { seat.new.me.0.actor
+            ≡ Running (with_debt (next_debt self.now.circuit.now (debt_of (run_of seat.old.me.0.actor).owes)) result (run_of seat.old.me.0.actor)) }
         ensures goes { GoesNoting seat.old.me.0 seat.new.me.0 tray.old.items tray.new.items }
     {
         self.take_credit(seat, d, spare);
@@ -97,7 +99,8 @@ impl<'c> Field<'c> {
         requires net { (net.0 ≡ target_of (device_at self.now.circuit.now d.0) slot) × (net.0 < nets self.now.circuit.now) }
         requires may { MayGive self.now.circuit.now d slot value seat.old.me.0.actor }
         ensures seat { IsSeatOf self.now seat.new }
-        ensures actor { seat.new.me.0.actor ≡ Running (given_run slot (if result then debt_from self.now.circuit.now net.0 0 else None) (run_of seat.old.me.0.actor)) }
+        ensures actor { seat.new.me.0.actor
+            ≡ Running (given_run slot (if result then debt_from self.now.circuit.now net.0 0 else None) (run_of seat.old.me.0.actor)) }
         ensures goes { Goes seat.old.me.0 seat.new.me.0 [] }
     {
         let bound = 2 * net.0 as usize + usize::from(slot % 2);

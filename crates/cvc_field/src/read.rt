@@ -26,13 +26,15 @@ pub(crate) fn bound_index(n: NetId, side: Side) -> u32
 
 impl<'c> Field<'c> {
     /// The present bound of a net, in millivolts: `None` where it is unknown. One load.
-    /// It is never narrower than what this hand, or those that it came from or took in, had seen of that bound or given to it; and no wider than that of any closed family, so of the least one.
+    /// It is never narrower than what this hand, or those that it came from or took in, had seen of that bound or given to it; and no wider than that
+    /// of any closed family, so of the least one.
     pub fn read(&self, hand: &mut Hand, n: NetId, side: Side) -> Option<Mv>
         requires hand { IsHandOf self.now hand.old }
         requires net { n.0 < nets self.now.circuit.now }
         ensures hand { IsHandOf self.now hand.new }
         ensures range { (hand.new.first ≡ hand.old.first) × (hand.new.numbers ≡ hand.old.numbers) }
-        ensures step { (word : ℕ) × (hand.new ≡ record hand.old { trail = hand.old.trail ++ Loaded (bound_index n.0 side) word ∷ [] }) × (result ≡ bound_in (side_number side) word) }
+        ensures step { (word : ℕ) × (hand.new ≡ record hand.old { trail = hand.old.trail ++ Loaded (bound_index n.0 side) word ∷ [] })
+            × (result ≡ bound_in (side_number side) word) }
         ensures seen { EachAtMost self.now.circuit.now (bound_index n.0 side) (reach_of self.now.circuit.now (side_number side) result) hand.old.trail }
         ensures within { WithinClosed self.now.circuit.now (bound_index n.0 side) (reach_of self.now.circuit.now (side_number side) result) }
     {

@@ -63,7 +63,8 @@ impl<'c> Field<'c> {
         requires idle { seat.old.me.0.actor ≡ Resting 0 }
         requires empty { tray.old.items ≡ [] }
         ensures seat { IsSeatOf self.now seat.new }
-        ensures done { (es : List Entry) × (seat.new.me.0 ≡ grown seat.old.me.0 es) × IsExchange self.now.circuit.now d result es × (tray.new.items ≡ tray_of es) }
+        ensures done { (es : List Entry) × (seat.new.me.0 ≡ grown seat.old.me.0 es) × IsExchange self.now.circuit.now d result es
+            × (tray.new.items ≡ tray_of es) }
     {
         let found = self.take(seat, d);
         if found != PLAIN_QUEUED {
@@ -80,7 +81,8 @@ impl<'c> Field<'c> {
         requires idle { seat.old.me.0.actor ≡ Resting 0 }
         requires empty { tray.old.items ≡ [] }
         ensures seat { IsSeatOf self.now seat.new }
-        ensures done { (es : List Entry) × (seat.new.me.0 ≡ grown seat.old.me.0 es) × IsScan self.now.circuit.now d.0 (d.0 + 1) result es × (tray.new.items ≡ tray_of es) }
+        ensures done { (es : List Entry) × (seat.new.me.0 ≡ grown seat.old.me.0 es) × IsScan self.now.circuit.now d.0 (d.0 + 1) result es
+            × (tray.new.items ≡ tray_of es) }
     {
         let mark = self.look(seat, d);
         if mark != PLAIN_QUEUED {
@@ -96,7 +98,8 @@ impl<'c> Field<'c> {
         requires idle { seat.old.me.0.actor ≡ Resting 0 }
         requires empty { tray.old.items ≡ [] }
         ensures seat { IsSeatOf self.now seat.new }
-        ensures done { (es : List Entry) × (seat.new.me.0 ≡ grown seat.old.me.0 es) × IsScan self.now.circuit.now from to result es × (tray.new.items ≡ tray_of es) }
+        ensures done { (es : List Entry) × (seat.new.me.0 ≡ grown seat.old.me.0 es) × IsScan self.now.circuit.now from to result es
+            × (tray.new.items ≡ tray_of es) }
     {
         for d in from..to {
             if self.try_one(seat, DevId(d), tray) {
@@ -135,7 +138,8 @@ impl<'c> Field<'c> {
         requires idle { seat.old.me.0.actor ≡ Resting 0 }
         requires empty { tray.old.items ≡ [] }
         ensures seat { IsSeatOf self.now seat.new }
-        ensures done { (es : List Entry) × (seat.new.me.0 ≡ grown seat.old.me.0 es) × IsTurnOn self.now.circuit.now d result es × (tray.new.items ≡ tray_of es) }
+        ensures done { (es : List Entry) × (seat.new.me.0 ≡ grown seat.old.me.0 es) × IsTurnOn self.now.circuit.now d result es
+            × (tray.new.items ≡ tray_of es) }
     {
         if self.exchange(seat, d, tray) {
             return TurnOn::Worked;
@@ -151,7 +155,8 @@ impl<'c> Field<'c> {
         requires first { (first < devices self.now.circuit.now) ⊎ (devices self.now.circuit.now ≡ 0) }
         ensures hand { IsHandOf self.now hand.new }
         ensures range { (hand.new.first ≡ hand.old.first) × (hand.new.numbers ≡ hand.old.numbers) }
-        ensures turn { (es : List Entry) × (hand.new ≡ record hand.old { trail = hand.old.trail ++ es }) × IsTurn self.now.circuit.now result es × (tray.new.items ≡ tray_of es) }
+        ensures turn { (es : List Entry) × (hand.new ≡ record hand.old { trail = hand.old.trail ++ es }) × IsTurn self.now.circuit.now result es
+            × (tray.new.items ≡ tray_of es) }
     {
         tray.clear();
         let answer = self.go_round(&mut hand.seat, first, tray);
@@ -168,7 +173,8 @@ impl<'c> Field<'c> {
         requires device { d.0 < devices self.now.circuit.now }
         ensures hand { IsHandOf self.now hand.new }
         ensures range { (hand.new.first ≡ hand.old.first) × (hand.new.numbers ≡ hand.old.numbers) }
-        ensures turn { (es : List Entry) × (hand.new ≡ record hand.old { trail = hand.old.trail ++ es }) × IsTurnOn self.now.circuit.now d result es × (tray.new.items ≡ tray_of es) }
+        ensures turn { (es : List Entry) × (hand.new ≡ record hand.old { trail = hand.old.trail ++ es }) × IsTurnOn self.now.circuit.now d result es
+            × (tray.new.items ≡ tray_of es) }
     {
         tray.clear();
         self.go_on(&mut hand.seat, d, tray)

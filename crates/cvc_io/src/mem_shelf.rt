@@ -1,5 +1,6 @@
 //! A shelf in memory that can fail.
-ghost use Rattle.std.specs.Prelude.{◌≡◌, ◌<◌, ◌≤◌, ℕ, Option, Some, None, [], ◌∷◌, ◌++◌, ◌&&◌, not, is_ok, OnOk, OnErr, IsSome, IsSomeAnd, length, slice_index, slice_set};
+ghost use Rattle.std.specs.Prelude.{◌≡◌, ◌<◌, ◌≤◌, ℕ, Option, Some, None, [], ◌∷◌, ◌++◌, ◌&&◌, not, is_ok, OnOk, OnErr, IsSome, IsSomeAnd, length};
+ghost use Rattle.std.specs.Prelude.{slice_index, slice_set};
 ghost use Rattle.std.specs.Io.{ReadsAtMost};
 ghost use Rattle.cvc_io.specs.Causes.{HasCause, Rose, bump};
 ghost use Rattle.cvc_io.specs.Files.{IsOpened, Reads, NoneFalls, RoseFor};

@@ -14,7 +14,8 @@ use cvc_law::{Circuit, Device, Family, Fixed, Interval};
 /// The numbers of a leak at this threshold, where the device is a MOS that may leak.
 fn leak(family: &Family, device: &Device, threshold: Mv) -> Option<Figures>
     requires { IsDevice (length family.now) device.now }
-    ensures { numbers_of result ≡ leak_at device.now threshold (interval_at family.now (gate device.now)) (interval_at family.now (end_a device.now)) (interval_at family.now (end_b device.now)) }
+    ensures { numbers_of result ≡ leak_at device.now threshold
+        (interval_at family.now (gate device.now)) (interval_at family.now (end_a device.now)) (interval_at family.now (end_b device.now)) }
 {
     if !device.is_mos() {
         return None;

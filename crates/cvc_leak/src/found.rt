@@ -78,7 +78,8 @@ impl Found {
 
     /// Adds what is found at the devices that come next.
     pub(crate) fn join(&mut self, next: &Found) -> Result<(), NoMemory>
-        ensures { (c : Network) (f : List Interval) (start middle end : ℕ) → AreFound c f start middle self.old → AreFound c f middle end next.now → OnOk result (AreFound c f start end self.new) }
+        ensures { (c : Network) (f : List Interval) (start middle end : ℕ) → AreFound c f start middle self.old → AreFound c f middle end next.now
+            → OnOk result (AreFound c f start end self.new) }
     {
         put_all(next.possible_leak.as_slice(), &mut self.possible_leak)?;
         put_all(next.supply_path.as_slice(), &mut self.supply_path)?;

@@ -10,8 +10,10 @@ ghost use Rattle.cvc_leak.specs.Leak.{leak_findings};
 
 /// A sure leak is a possible leak: of a device whose corner that conducts most has the lesser threshold, as in every circuit, and in every family.
 pub fn a_sure_leak_is_a_possible_leak()
-    ensures device { (c : Network) (f : List Interval) (d : Device) → d.volts.threshold ≤ℤ d.volts.weak → IsSome (holds c f d Rule.SureLeak) → IsSome (holds c f d Rule.PossibleLeak) }
-    ensures circuit { (c : Network) (f : List Interval) (i : ℕ) → IsCircuit c.fixed c.devices → IsSome (finding_at c f Rule.SureLeak i) → IsSome (finding_at c f Rule.PossibleLeak i) }
+    ensures device { (c : Network) (f : List Interval) (d : Device) → d.volts.threshold ≤ℤ d.volts.weak → IsSome (holds c f d Rule.SureLeak)
+        → IsSome (holds c f d Rule.PossibleLeak) }
+    ensures circuit { (c : Network) (f : List Interval) (i : ℕ) → IsCircuit c.fixed c.devices → IsSome (finding_at c f Rule.SureLeak i)
+        → IsSome (finding_at c f Rule.PossibleLeak i) }
 {}
 
 /// All findings are those of the rules about pins and then those of this crate's rules.

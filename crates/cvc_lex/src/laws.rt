@@ -14,10 +14,14 @@ pub fn closed_lines_stay()
 
 /// After a sure fault neither the fault nor the closed lines change, whatever follows.
 pub fn a_sure_fault_decides()
-    ensures later { (file : FileKind) (stream more : List ℕ) (fault : Fault) → sure_fault file stream ≡ Some fault → sure_fault file (stream ++ more) ≡ Some fault }
-    ensures later_lines { (file : FileKind) (stream more : List ℕ) (fault : Fault) → sure_fault file stream ≡ Some fault → closed_so_far file (stream ++ more) ≡ closed_so_far file stream }
-    ensures whole { (file : FileKind) (stream more : List ℕ) (fault : Fault) → sure_fault file stream ≡ Some fault → lexical file (stream ++ more) ≡ Some fault }
-    ensures whole_lines { (file : FileKind) (stream more : List ℕ) (fault : Fault) → sure_fault file stream ≡ Some fault → closed_at_end file (stream ++ more) ≡ closed_so_far file stream }
+    ensures later { (file : FileKind) (stream more : List ℕ) (fault : Fault) → sure_fault file stream ≡ Some fault
+        → sure_fault file (stream ++ more) ≡ Some fault }
+    ensures later_lines { (file : FileKind) (stream more : List ℕ) (fault : Fault) → sure_fault file stream ≡ Some fault
+        → closed_so_far file (stream ++ more) ≡ closed_so_far file stream }
+    ensures whole { (file : FileKind) (stream more : List ℕ) (fault : Fault) → sure_fault file stream ≡ Some fault
+        → lexical file (stream ++ more) ≡ Some fault }
+    ensures whole_lines { (file : FileKind) (stream more : List ℕ) (fault : Fault) → sure_fault file stream ≡ Some fault
+        → closed_at_end file (stream ++ more) ≡ closed_so_far file stream }
 {}
 
 /// Each logical line has a token.

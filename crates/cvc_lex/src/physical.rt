@@ -4,7 +4,8 @@ ghost use Rattle.std.specs.List.{list_all, list_any, position_or_len, prefix_len
 ghost use Rattle.cvc_lex.specs.Bytes.{is_netlist as netlist_of, is_blank as blank_of, is_bad as bad_of, file_limit as limit_of};
 ghost use Rattle.cvc_lex.specs.Comments.{begins_comment as comment_in, card_comment as card_comment_in, row_comment as row_comment_in, IsShort};
 ghost use Rattle.cvc_lex.specs.Lined.{IsFirstLine};
-ghost use Rattle.cvc_lex.specs.Physical.{without_last as without_last_of, text_of as text_in, is_lone_dollar as lone_dollar_at, first_place, cut as cut_of, unindented, card_shape as shape_of_card, shape_of as shape_in};
+ghost use Rattle.cvc_lex.specs.Physical.{without_last as without_last_of, text_of as text_in, is_lone_dollar as lone_dollar_at, first_place};
+ghost use Rattle.cvc_lex.specs.Physical.{cut as cut_of, unindented, card_shape as shape_of_card, shape_of as shape_in};
 ghost use Rattle.cvc_lex.specs.Skips.{SkipsTo};
 
 use crate::shape::Shape;

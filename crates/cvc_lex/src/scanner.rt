@@ -50,7 +50,8 @@ impl Scanner {
     ghost use Rattle.cvc_base.specs.Answers.{refusal_in};
     ghost use Rattle.cvc_lex.specs.Comments.{Shortens};
     ghost use Rattle.cvc_lex.specs.Lined.{IsLineEnd, HasNoEnd};
-    ghost use Rattle.cvc_lex.specs.Scanning.{lexing_of, Adds, Ends, Closes, IsGoing, Reads, EndsStream, CountsBytes, outcome, shaped, start_read, start_shape, continuation_read};
+    ghost use Rattle.cvc_lex.specs.Scanning.{lexing_of, Adds, Ends, Closes, IsGoing, Reads, EndsStream, CountsBytes, outcome, shaped, start_read};
+    ghost use Rattle.cvc_lex.specs.Scanning.{start_shape, continuation_read};
 
     pub(crate) fn new(alloc: Global, file: FileKind) -> Scanner
         ensures { lexing_of result ≡ record { file = file; finished = false; refused = None; waiting = []; started = None; count = 0; size = 0; rest = [] } }

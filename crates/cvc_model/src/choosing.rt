@@ -1,6 +1,7 @@
 //! Whether a device's parameters pass the tests of a row.
 ghost use Rattle.std.specs.Prelude.{◌≡◌, option_copied};
-ghost use Rattle.cvc_model.specs.Chosen.{outcome_at as outcome_in, outcome_of as outcome_of_all, outcome_of_test as outcome_of_one, last_named as last_of_name, passes as passes_at};
+ghost use Rattle.cvc_model.specs.Chosen.{outcome_at as outcome_in, outcome_of as outcome_of_all, outcome_of_test as outcome_of_one};
+ghost use Rattle.cvc_model.specs.Chosen.{last_named as last_of_name, passes as passes_at};
 
 use crate::row::{Test, Tests};
 use crate::words::is_word;

@@ -28,7 +28,9 @@ impl<K: Sink> Writer<'_, K> {
     // Ends the line of a leak.
     fn end_leak(&mut self, model: &[u8], finding: &Finding) -> Result<(), WriteFailed>
         ensures same_sink { self.new.sink.ghost_name ≡ self.old.sink.ghost_name }
-        ensures put { Puts result (stand (K.written self.old.sink.now) self.old.waiting.items (K.faults self.old.sink.now)) (stand (K.written self.new.sink.now) self.new.waiting.items (K.faults self.new.sink.now)) (line_end (model.now ∷ leak_words finding.now)) }
+        ensures put { Puts result
+            (stand (K.written self.old.sink.now) self.old.waiting.items (K.faults self.old.sink.now))
+            (stand (K.written self.new.sink.now) self.new.waiting.items (K.faults self.new.sink.now)) (line_end (model.now ∷ leak_words finding.now)) }
     {
         let (mut gate_low, mut gate_high) = (Buffer::new(), Buffer::new());
         let (mut low, mut high) = (Buffer::new(), Buffer::new());
@@ -46,7 +48,9 @@ impl<K: Sink> Writer<'_, K> {
     // Ends the line of a supply path.
     fn end_path(&mut self, model: &[u8], finding: &Finding) -> Result<(), WriteFailed>
         ensures same_sink { self.new.sink.ghost_name ≡ self.old.sink.ghost_name }
-        ensures put { Puts result (stand (K.written self.old.sink.now) self.old.waiting.items (K.faults self.old.sink.now)) (stand (K.written self.new.sink.now) self.new.waiting.items (K.faults self.new.sink.now)) (line_end (model.now ∷ path_words finding.now)) }
+        ensures put { Puts result
+            (stand (K.written self.old.sink.now) self.old.waiting.items (K.faults self.old.sink.now))
+            (stand (K.written self.new.sink.now) self.new.waiting.items (K.faults self.new.sink.now)) (line_end (model.now ∷ path_words finding.now)) }
     {
         let (mut a_low, mut a_high) = (Buffer::new(), Buffer::new());
         let (mut b_low, mut b_high) = (Buffer::new(), Buffer::new());
@@ -63,7 +67,9 @@ impl<K: Sink> Writer<'_, K> {
     // Ends the line of a limit that is exceeded.
     fn end_limit(&mut self, model: &[u8], finding: &Finding) -> Result<(), WriteFailed>
         ensures same_sink { self.new.sink.ghost_name ≡ self.old.sink.ghost_name }
-        ensures put { Puts result (stand (K.written self.old.sink.now) self.old.waiting.items (K.faults self.old.sink.now)) (stand (K.written self.new.sink.now) self.new.waiting.items (K.faults self.new.sink.now)) (line_end (model.now ∷ limit_words finding.now)) }
+        ensures put { Puts result
+            (stand (K.written self.old.sink.now) self.old.waiting.items (K.faults self.old.sink.now))
+            (stand (K.written self.new.sink.now) self.new.waiting.items (K.faults self.new.sink.now)) (line_end (model.now ∷ limit_words finding.now)) }
     {
         let (mut limit, mut found) = (Buffer::new(), Buffer::new());
         self.end_line(&[
@@ -78,7 +84,10 @@ impl<K: Sink> Writer<'_, K> {
     // Ends the line of a gate that floats with the gate's net, which is given in pieces.
     fn end_gate(&mut self, model: &[u8], pieces: &[&[u8]]) -> Result<(), WriteFailed>
         ensures same_sink { self.new.sink.ghost_name ≡ self.old.sink.ghost_name }
-        ensures put { Puts result (stand (K.written self.old.sink.now) self.old.waiting.items (K.faults self.old.sink.now)) (stand (K.written self.new.sink.now) self.new.waiting.items (K.faults self.new.sink.now)) (line_end (model.now ∷ codes "net" ∷ flat_map (λ w. w.now) pieces.now ∷ [])) }
+        ensures put { Puts result
+            (stand (K.written self.old.sink.now) self.old.waiting.items (K.faults self.old.sink.now))
+            (stand (K.written self.new.sink.now) self.new.waiting.items (K.faults self.new.sink.now))
+            (line_end (model.now ∷ codes "net" ∷ flat_map (λ w. w.now) pieces.now ∷ [])) }
     {
         self.put_words(&[model, b"net"])?;
         self.put_name(pieces)?;
@@ -97,7 +106,10 @@ impl<K: Sink> Writer<'_, K> {
         requires listed { nets circuit.now ≡ length flat.now.list.nets }
         requires device { finding.now.device.0 < devices circuit.now }
         ensures same_sink { self.new.sink.ghost_name ≡ self.old.sink.ghost_name }
-        ensures put { Puts result (stand (K.written self.old.sink.now) self.old.waiting.items (K.faults self.old.sink.now)) (stand (K.written self.new.sink.now) self.new.waiting.items (K.faults self.new.sink.now)) (line_end (model.now ∷ details circuit.now flat.now.list finding.now finding.now.rule)) }
+        ensures put { Puts result
+            (stand (K.written self.old.sink.now) self.old.waiting.items (K.faults self.old.sink.now))
+            (stand (K.written self.new.sink.now) self.new.waiting.items (K.faults self.new.sink.now))
+            (line_end (model.now ∷ details circuit.now flat.now.list finding.now finding.now.rule)) }
     {
         match finding.rule {
             Rule::PossibleLeak | Rule::SureLeak => self.end_leak(model, finding),
@@ -121,7 +133,9 @@ impl<K: Sink> Writer<'_, K> {
         requires bound { IsBound (length flat.now.list.nets) (map (λ d. d.pins) flat.now.list.devices) circuit.now }
         requires device { finding.now.device.0 < devices circuit.now }
         ensures same_sink { self.new.sink.ghost_name ≡ self.old.sink.ghost_name }
-        ensures put { Puts result (stand (K.written self.old.sink.now) self.old.waiting.items (K.faults self.old.sink.now)) (stand (K.written self.new.sink.now) self.new.waiting.items (K.faults self.new.sink.now)) (finding_line circuit.now flat.now.list finding.now) }
+        ensures put { Puts result
+            (stand (K.written self.old.sink.now) self.old.waiting.items (K.faults self.old.sink.now))
+            (stand (K.written self.new.sink.now) self.new.waiting.items (K.faults self.new.sink.now)) (finding_line circuit.now flat.now.list finding.now) }
     {
         flat.device_pieces(finding.device, pieces);
         self.begin_line(word_for_rule(finding.rule), pieces.as_slice())?;
@@ -138,7 +152,10 @@ impl<K: Sink> Writer<'_, K> {
         requires bound { IsBound (length flat.now.list.nets) (map (λ d. d.pins) flat.now.list.devices) circuit.now }
         requires devices { All (λ x. x.device.0 < devices circuit.now) findings.now }
         ensures same_sink { self.new.sink.ghost_name ≡ self.old.sink.ghost_name }
-        ensures put { Puts result (stand (K.written self.old.sink.now) self.old.waiting.items (K.faults self.old.sink.now)) (stand (K.written self.new.sink.now) self.new.waiting.items (K.faults self.new.sink.now)) (flat_map (finding_line circuit.now flat.now.list) findings.now) }
+        ensures put { Puts result
+            (stand (K.written self.old.sink.now) self.old.waiting.items (K.faults self.old.sink.now))
+            (stand (K.written self.new.sink.now) self.new.waiting.items (K.faults self.new.sink.now))
+            (flat_map (finding_line circuit.now flat.now.list) findings.now) }
     {
         let mut pieces = Pieces::new();
         for finding in findings {

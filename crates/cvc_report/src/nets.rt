@@ -20,7 +20,10 @@ impl<K: Sink> Writer<'_, K> {
     // Ends the line of a declared net.
     fn end_declared(&mut self, fixed: &Fixed) -> Result<(), WriteFailed>
         ensures same_sink { self.new.sink.ghost_name ≡ self.old.sink.ghost_name }
-        ensures put { Puts result (stand (K.written self.old.sink.now) self.old.waiting.items (K.faults self.old.sink.now)) (stand (K.written self.new.sink.now) self.new.waiting.items (K.faults self.new.sink.now)) (line_end (codes "declared" ∷ signed_decimal fixed.now.low ∷ signed_decimal fixed.now.high ∷ [])) }
+        ensures put { Puts result
+            (stand (K.written self.old.sink.now) self.old.waiting.items (K.faults self.old.sink.now))
+            (stand (K.written self.new.sink.now) self.new.waiting.items (K.faults self.new.sink.now))
+            (line_end (codes "declared" ∷ signed_decimal fixed.now.low ∷ signed_decimal fixed.now.high ∷ [])) }
     {
         let (mut low, mut high) = (Buffer::new(), Buffer::new());
         self.end_line(&[
@@ -33,7 +36,10 @@ impl<K: Sink> Writer<'_, K> {
     // Ends the line of a net that is not declared.
     fn end_settled(&mut self, interval: &Interval) -> Result<(), WriteFailed>
         ensures same_sink { self.new.sink.ghost_name ≡ self.old.sink.ghost_name }
-        ensures put { Puts result (stand (K.written self.old.sink.now) self.old.waiting.items (K.faults self.old.sink.now)) (stand (K.written self.new.sink.now) self.new.waiting.items (K.faults self.new.sink.now)) (line_end (bound_text interval.now.low ∷ bound_text interval.now.high ∷ [])) }
+        ensures put { Puts result
+            (stand (K.written self.old.sink.now) self.old.waiting.items (K.faults self.old.sink.now))
+            (stand (K.written self.new.sink.now) self.new.waiting.items (K.faults self.new.sink.now))
+            (line_end (bound_text interval.now.low ∷ bound_text interval.now.high ∷ [])) }
     {
         let (mut low, mut high) = (Buffer::new(), Buffer::new());
         self.end_line(&[
@@ -47,7 +53,10 @@ impl<K: Sink> Writer<'_, K> {
         requires net { n.0 < nets circuit.now }
         requires family { length family.now ≡ nets circuit.now }
         ensures same_sink { self.new.sink.ghost_name ≡ self.old.sink.ghost_name }
-        ensures put { Puts result (stand (K.written self.old.sink.now) self.old.waiting.items (K.faults self.old.sink.now)) (stand (K.written self.new.sink.now) self.new.waiting.items (K.faults self.new.sink.now)) (line_end (net_words (fixed_at circuit.now n.0) (interval_at family.now n.0))) }
+        ensures put { Puts result
+            (stand (K.written self.old.sink.now) self.old.waiting.items (K.faults self.old.sink.now))
+            (stand (K.written self.new.sink.now) self.new.waiting.items (K.faults self.new.sink.now))
+            (line_end (net_words (fixed_at circuit.now n.0) (interval_at family.now n.0))) }
     {
         match circuit.fixed(n) {
             Some(fixed) => self.end_declared(&fixed),
@@ -68,7 +77,9 @@ impl<K: Sink> Writer<'_, K> {
         requires listed { nets circuit.now ≡ length flat.now.list.nets }
         requires family { length family.now ≡ nets circuit.now }
         ensures same_sink { self.new.sink.ghost_name ≡ self.old.sink.ghost_name }
-        ensures put { Puts result (stand (K.written self.old.sink.now) self.old.waiting.items (K.faults self.old.sink.now)) (stand (K.written self.new.sink.now) self.new.waiting.items (K.faults self.new.sink.now)) (net_line circuit.now flat.now.list family.now n.0) }
+        ensures put { Puts result
+            (stand (K.written self.old.sink.now) self.old.waiting.items (K.faults self.old.sink.now))
+            (stand (K.written self.new.sink.now) self.new.waiting.items (K.faults self.new.sink.now)) (net_line circuit.now flat.now.list family.now n.0) }
     {
         flat.net_pieces(n, pieces);
         self.begin_line(b"net", pieces.as_slice())?;
@@ -85,7 +96,9 @@ impl<K: Sink> Writer<'_, K> {
         requires listed { nets circuit.now ≡ length flat.now.list.nets }
         requires family { length family.now ≡ nets circuit.now }
         ensures same_sink { self.new.sink.ghost_name ≡ self.old.sink.ghost_name }
-        ensures put { Puts result (stand (K.written self.old.sink.now) self.old.waiting.items (K.faults self.old.sink.now)) (stand (K.written self.new.sink.now) self.new.waiting.items (K.faults self.new.sink.now)) (net_lines circuit.now flat.now.list family.now true) }
+        ensures put { Puts result
+            (stand (K.written self.old.sink.now) self.old.waiting.items (K.faults self.old.sink.now))
+            (stand (K.written self.new.sink.now) self.new.waiting.items (K.faults self.new.sink.now)) (net_lines circuit.now flat.now.list family.now true) }
     {
         let mut pieces = Pieces::new();
         for n in 0..circuit.nets() {
@@ -105,7 +118,10 @@ impl<K: Sink> Writer<'_, K> {
         requires listed { nets circuit.now ≡ length flat.now.list.nets }
         requires family { length family.now ≡ nets circuit.now }
         ensures same_sink { self.new.sink.ghost_name ≡ self.old.sink.ghost_name }
-        ensures put { Puts result (stand (K.written self.old.sink.now) self.old.waiting.items (K.faults self.old.sink.now)) (stand (K.written self.new.sink.now) self.new.waiting.items (K.faults self.new.sink.now)) (net_lines circuit.now flat.now.list family.now with_nets) }
+        ensures put { Puts result
+            (stand (K.written self.old.sink.now) self.old.waiting.items (K.faults self.old.sink.now))
+            (stand (K.written self.new.sink.now) self.new.waiting.items (K.faults self.new.sink.now))
+            (net_lines circuit.now flat.now.list family.now with_nets) }
     {
         if with_nets {
             self.put_all_nets(circuit, flat, family)

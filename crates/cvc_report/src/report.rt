@@ -30,7 +30,9 @@ impl<K: Sink> Writer<'_, K> {
     // The line of the top and the sizes.
     fn put_top(&mut self, circuit: &Circuit, flat: &Flat) -> Result<(), WriteFailed>
         ensures same_sink { self.new.sink.ghost_name ≡ self.old.sink.ghost_name }
-        ensures put { Puts result (stand (K.written self.old.sink.now) self.old.waiting.items (K.faults self.old.sink.now)) (stand (K.written self.new.sink.now) self.new.waiting.items (K.faults self.new.sink.now)) (top_line circuit.now flat.now.list) }
+        ensures put { Puts result
+            (stand (K.written self.old.sink.now) self.old.waiting.items (K.faults self.old.sink.now))
+            (stand (K.written self.new.sink.now) self.new.waiting.items (K.faults self.new.sink.now)) (top_line circuit.now flat.now.list) }
     {
         let (mut devices, mut nets, mut declared) = (Buffer::new(), Buffer::new(), Buffer::new());
         let words = [
@@ -58,7 +60,10 @@ impl<K: Sink> Writer<'_, K> {
         requires family { length family.now ≡ nets circuit.now }
         requires devices { All (λ x. x.device.0 < devices circuit.now) findings.now }
         ensures same_sink { self.new.sink.ghost_name ≡ self.old.sink.ghost_name }
-        ensures put { Puts result (stand (K.written self.old.sink.now) self.old.waiting.items (K.faults self.old.sink.now)) (stand (K.written self.new.sink.now) self.new.waiting.items (K.faults self.new.sink.now)) (report_with circuit.now flat.now.list family.now with_nets findings.now) }
+        ensures put { Puts result
+            (stand (K.written self.old.sink.now) self.old.waiting.items (K.faults self.old.sink.now))
+            (stand (K.written self.new.sink.now) self.new.waiting.items (K.faults self.new.sink.now))
+            (report_with circuit.now flat.now.list family.now with_nets findings.now) }
     {
         self.put_line(b"CVC report", &[])?;
         self.put_top(circuit, flat)?;
@@ -81,7 +86,8 @@ impl<K: Sink> Writer<'_, K> {
         requires family { length family.now ≡ nets circuit.now }
         requires found { findings.now ≡ findings_of circuit.now family.now }
         ensures same_sink { self.new.sink.ghost_name ≡ self.old.sink.ghost_name }
-        ensures written { WritesText (K.written self.old.sink.now) (K.written self.new.sink.now) result (report circuit.now flat.now.list family.now with_nets) }
+        ensures written { WritesText (K.written self.old.sink.now) (K.written self.new.sink.now) result
+            (report circuit.now flat.now.list family.now with_nets) }
         ensures cause { HasCause (K.faults self.old.sink.now) (K.faults self.new.sink.now) result }
     {
         self.put_report(circuit, flat, family, findings, with_nets)?;

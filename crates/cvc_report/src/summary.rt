@@ -36,7 +36,9 @@ impl<K: Sink> Writer<'_, K> {
     // The seed and the size of the circuit.
     fn put_survey(&mut self, seed: u64, size: u32) -> Result<(), WriteFailed>
         ensures same_sink { self.new.sink.ghost_name ≡ self.old.sink.ghost_name }
-        ensures put { Puts result (stand (K.written self.old.sink.now) self.old.waiting.items (K.faults self.old.sink.now)) (stand (K.written self.new.sink.now) self.new.waiting.items (K.faults self.new.sink.now)) (survey_line seed size) }
+        ensures put { Puts result
+            (stand (K.written self.old.sink.now) self.old.waiting.items (K.faults self.old.sink.now))
+            (stand (K.written self.new.sink.now) self.new.waiting.items (K.faults self.new.sink.now)) (survey_line seed size) }
     {
         let (mut seed_text, mut size_text) = (Buffer::new(), Buffer::new());
         let words = [
@@ -51,7 +53,9 @@ impl<K: Sink> Writer<'_, K> {
 
     fn put_sizes(&mut self, circuit: &Circuit) -> Result<(), WriteFailed>
         ensures same_sink { self.new.sink.ghost_name ≡ self.old.sink.ghost_name }
-        ensures put { Puts result (stand (K.written self.old.sink.now) self.old.waiting.items (K.faults self.old.sink.now)) (stand (K.written self.new.sink.now) self.new.waiting.items (K.faults self.new.sink.now)) (line (size_words circuit.now)) }
+        ensures put { Puts result
+            (stand (K.written self.old.sink.now) self.old.waiting.items (K.faults self.old.sink.now))
+            (stand (K.written self.new.sink.now) self.new.waiting.items (K.faults self.new.sink.now)) (line (size_words circuit.now)) }
     {
         let (mut devices, mut nets, mut declared) = (Buffer::new(), Buffer::new(), Buffer::new());
         let words = [
@@ -67,7 +71,9 @@ impl<K: Sink> Writer<'_, K> {
     // The number of a rule's findings.
     fn put_count(&mut self, findings: &[Finding], rule: Rule) -> Result<(), WriteFailed>
         ensures same_sink { self.new.sink.ghost_name ≡ self.old.sink.ghost_name }
-        ensures put { Puts result (stand (K.written self.old.sink.now) self.old.waiting.items (K.faults self.old.sink.now)) (stand (K.written self.new.sink.now) self.new.waiting.items (K.faults self.new.sink.now)) (count_line findings.now rule) }
+        ensures put { Puts result
+            (stand (K.written self.old.sink.now) self.old.waiting.items (K.faults self.old.sink.now))
+            (stand (K.written self.new.sink.now) self.new.waiting.items (K.faults self.new.sink.now)) (count_line findings.now rule) }
     {
         let mut number = Buffer::new();
         let count = count_of_rule(findings, rule);
@@ -77,7 +83,9 @@ impl<K: Sink> Writer<'_, K> {
     // The numbers of these rules' findings.
     fn put_counts(&mut self, findings: &[Finding], rules: &[Rule]) -> Result<(), WriteFailed>
         ensures same_sink { self.new.sink.ghost_name ≡ self.old.sink.ghost_name }
-        ensures put { Puts result (stand (K.written self.old.sink.now) self.old.waiting.items (K.faults self.old.sink.now)) (stand (K.written self.new.sink.now) self.new.waiting.items (K.faults self.new.sink.now)) (flat_map (count_line findings.now) rules.now) }
+        ensures put { Puts result
+            (stand (K.written self.old.sink.now) self.old.waiting.items (K.faults self.old.sink.now))
+            (stand (K.written self.new.sink.now) self.new.waiting.items (K.faults self.new.sink.now)) (flat_map (count_line findings.now) rules.now) }
     {
         for rule in rules {
             self.put_count(findings, *rule)?;
@@ -88,7 +96,9 @@ impl<K: Sink> Writer<'_, K> {
     /// The last line of a text: the number of all findings.
     pub(crate) fn put_errors(&mut self, findings: &[Finding]) -> Result<(), WriteFailed>
         ensures same_sink { self.new.sink.ghost_name ≡ self.old.sink.ghost_name }
-        ensures put { Puts result (stand (K.written self.old.sink.now) self.old.waiting.items (K.faults self.old.sink.now)) (stand (K.written self.new.sink.now) self.new.waiting.items (K.faults self.new.sink.now)) (errors_line findings.now) }
+        ensures put { Puts result
+            (stand (K.written self.old.sink.now) self.old.waiting.items (K.faults self.old.sink.now))
+            (stand (K.written self.new.sink.now) self.new.waiting.items (K.faults self.new.sink.now)) (errors_line findings.now) }
     {
         let mut number = Buffer::new();
         self.put_line(b"errors", &[number.format(findings.len()).as_bytes()])
@@ -102,7 +112,9 @@ impl<K: Sink> Writer<'_, K> {
         findings: &[Finding],
     ) -> Result<(), WriteFailed>
         ensures same_sink { self.new.sink.ghost_name ≡ self.old.sink.ghost_name }
-        ensures put { Puts result (stand (K.written self.old.sink.now) self.old.waiting.items (K.faults self.old.sink.now)) (stand (K.written self.new.sink.now) self.new.waiting.items (K.faults self.new.sink.now)) (summary seed size circuit.now findings.now) }
+        ensures put { Puts result
+            (stand (K.written self.old.sink.now) self.old.waiting.items (K.faults self.old.sink.now))
+            (stand (K.written self.new.sink.now) self.new.waiting.items (K.faults self.new.sink.now)) (summary seed size circuit.now findings.now) }
     {
         self.put_survey(seed, size)?;
         self.put_sizes(circuit)?;

@@ -49,7 +49,9 @@ impl<'k, K: Sink> Writer<'k, K> {
     /// Hands all that waits to the sink. It makes no call where nothing waits.
     pub(crate) fn flush(&mut self) -> Result<(), WriteFailed>
         ensures same_sink { self.new.sink.ghost_name ≡ self.old.sink.ghost_name }
-        ensures put { Puts result (stand (K.written self.old.sink.now) self.old.waiting.items (K.faults self.old.sink.now)) (stand (K.written self.new.sink.now) self.new.waiting.items (K.faults self.new.sink.now)) [] }
+        ensures put { Puts result
+            (stand (K.written self.old.sink.now) self.old.waiting.items (K.faults self.old.sink.now))
+            (stand (K.written self.new.sink.now) self.new.waiting.items (K.faults self.new.sink.now)) [] }
         ensures empty { OnOk result (self.new.waiting.items ≡ []) }
     {
         let mut done = 0;
@@ -63,7 +65,9 @@ impl<'k, K: Sink> Writer<'k, K> {
     // Hands all that waits to the sink where it fills the buffer.
     fn make_room(&mut self) -> Result<(), WriteFailed>
         ensures same_sink { self.new.sink.ghost_name ≡ self.old.sink.ghost_name }
-        ensures put { Puts result (stand (K.written self.old.sink.now) self.old.waiting.items (K.faults self.old.sink.now)) (stand (K.written self.new.sink.now) self.new.waiting.items (K.faults self.new.sink.now)) [] }
+        ensures put { Puts result
+            (stand (K.written self.old.sink.now) self.old.waiting.items (K.faults self.old.sink.now))
+            (stand (K.written self.new.sink.now) self.new.waiting.items (K.faults self.new.sink.now)) [] }
         ensures room { OnOk result (array_vec_len self.new.waiting < BUFFER) }
     {
         if self.waiting.is_full() {
@@ -76,7 +80,9 @@ impl<'k, K: Sink> Writer<'k, K> {
     /// Puts a text behind what waits. The sink takes what waits whenever it fills the buffer.
     pub(crate) fn put(&mut self, text: &[u8]) -> Result<(), WriteFailed>
         ensures same_sink { self.new.sink.ghost_name ≡ self.old.sink.ghost_name }
-        ensures put { Puts result (stand (K.written self.old.sink.now) self.old.waiting.items (K.faults self.old.sink.now)) (stand (K.written self.new.sink.now) self.new.waiting.items (K.faults self.new.sink.now)) text.now }
+        ensures put { Puts result
+            (stand (K.written self.old.sink.now) self.old.waiting.items (K.faults self.old.sink.now))
+            (stand (K.written self.new.sink.now) self.new.waiting.items (K.faults self.new.sink.now)) text.now }
     {
         let mut done = 0;
         while done < text.len() {
@@ -88,7 +94,9 @@ impl<'k, K: Sink> Writer<'k, K> {
     // Puts a word behind a blank.
     fn put_word(&mut self, word: &[u8]) -> Result<(), WriteFailed>
         ensures same_sink { self.new.sink.ghost_name ≡ self.old.sink.ghost_name }
-        ensures put { Puts result (stand (K.written self.old.sink.now) self.old.waiting.items (K.faults self.old.sink.now)) (stand (K.written self.new.sink.now) self.new.waiting.items (K.faults self.new.sink.now)) (32 ∷ word.now) }
+        ensures put { Puts result
+            (stand (K.written self.old.sink.now) self.old.waiting.items (K.faults self.old.sink.now))
+            (stand (K.written self.new.sink.now) self.new.waiting.items (K.faults self.new.sink.now)) (32 ∷ word.now) }
     {
         self.put(b" ")?;
         self.put(word)
@@ -97,7 +105,9 @@ impl<'k, K: Sink> Writer<'k, K> {
     /// Puts each word behind a blank.
     pub(crate) fn put_words(&mut self, words: &[&[u8]]) -> Result<(), WriteFailed>
         ensures same_sink { self.new.sink.ghost_name ≡ self.old.sink.ghost_name }
-        ensures put { Puts result (stand (K.written self.old.sink.now) self.old.waiting.items (K.faults self.old.sink.now)) (stand (K.written self.new.sink.now) self.new.waiting.items (K.faults self.new.sink.now)) (blank_before (map (λ w. w.now) words.now)) }
+        ensures put { Puts result
+            (stand (K.written self.old.sink.now) self.old.waiting.items (K.faults self.old.sink.now))
+            (stand (K.written self.new.sink.now) self.new.waiting.items (K.faults self.new.sink.now)) (blank_before (map (λ w. w.now) words.now)) }
     {
         for word in words {
             self.put_word(word)?;
@@ -108,7 +118,9 @@ impl<'k, K: Sink> Writer<'k, K> {
     // Puts these texts, one behind another.
     fn put_pieces(&mut self, pieces: &[&[u8]]) -> Result<(), WriteFailed>
         ensures same_sink { self.new.sink.ghost_name ≡ self.old.sink.ghost_name }
-        ensures put { Puts result (stand (K.written self.old.sink.now) self.old.waiting.items (K.faults self.old.sink.now)) (stand (K.written self.new.sink.now) self.new.waiting.items (K.faults self.new.sink.now)) (flat_map (λ w. w.now) pieces.now) }
+        ensures put { Puts result
+            (stand (K.written self.old.sink.now) self.old.waiting.items (K.faults self.old.sink.now))
+            (stand (K.written self.new.sink.now) self.new.waiting.items (K.faults self.new.sink.now)) (flat_map (λ w. w.now) pieces.now) }
     {
         for piece in pieces {
             self.put(piece)?;
@@ -119,7 +131,9 @@ impl<'k, K: Sink> Writer<'k, K> {
     /// Puts a name behind a blank. The name is given in pieces.
     pub(crate) fn put_name(&mut self, pieces: &[&[u8]]) -> Result<(), WriteFailed>
         ensures same_sink { self.new.sink.ghost_name ≡ self.old.sink.ghost_name }
-        ensures put { Puts result (stand (K.written self.old.sink.now) self.old.waiting.items (K.faults self.old.sink.now)) (stand (K.written self.new.sink.now) self.new.waiting.items (K.faults self.new.sink.now)) (32 ∷ flat_map (λ w. w.now) pieces.now) }
+        ensures put { Puts result
+            (stand (K.written self.old.sink.now) self.old.waiting.items (K.faults self.old.sink.now))
+            (stand (K.written self.new.sink.now) self.new.waiting.items (K.faults self.new.sink.now)) (32 ∷ flat_map (λ w. w.now) pieces.now) }
     {
         self.put(b" ")?;
         self.put_pieces(pieces)
@@ -128,7 +142,9 @@ impl<'k, K: Sink> Writer<'k, K> {
     /// Begins a line with a word and a name, which is given in pieces.
     pub(crate) fn begin_line(&mut self, word: &[u8], pieces: &[&[u8]]) -> Result<(), WriteFailed>
         ensures same_sink { self.new.sink.ghost_name ≡ self.old.sink.ghost_name }
-        ensures put { Puts result (stand (K.written self.old.sink.now) self.old.waiting.items (K.faults self.old.sink.now)) (stand (K.written self.new.sink.now) self.new.waiting.items (K.faults self.new.sink.now)) (word.now ++ 32 ∷ flat_map (λ w. w.now) pieces.now) }
+        ensures put { Puts result
+            (stand (K.written self.old.sink.now) self.old.waiting.items (K.faults self.old.sink.now))
+            (stand (K.written self.new.sink.now) self.new.waiting.items (K.faults self.new.sink.now)) (word.now ++ 32 ∷ flat_map (λ w. w.now) pieces.now) }
     {
         self.put(word)?;
         self.put_name(pieces)
@@ -137,7 +153,9 @@ impl<'k, K: Sink> Writer<'k, K> {
     /// Ends a line with these words, each behind a blank.
     pub(crate) fn end_line(&mut self, words: &[&[u8]]) -> Result<(), WriteFailed>
         ensures same_sink { self.new.sink.ghost_name ≡ self.old.sink.ghost_name }
-        ensures put { Puts result (stand (K.written self.old.sink.now) self.old.waiting.items (K.faults self.old.sink.now)) (stand (K.written self.new.sink.now) self.new.waiting.items (K.faults self.new.sink.now)) (line_end (map (λ w. w.now) words.now)) }
+        ensures put { Puts result
+            (stand (K.written self.old.sink.now) self.old.waiting.items (K.faults self.old.sink.now))
+            (stand (K.written self.new.sink.now) self.new.waiting.items (K.faults self.new.sink.now)) (line_end (map (λ w. w.now) words.now)) }
     {
         self.put_words(words)?;
         self.put(b"\n")
@@ -146,7 +164,9 @@ impl<'k, K: Sink> Writer<'k, K> {
     /// Puts a line of these words, with a blank between each two.
     pub(crate) fn put_line(&mut self, first: &[u8], others: &[&[u8]]) -> Result<(), WriteFailed>
         ensures same_sink { self.new.sink.ghost_name ≡ self.old.sink.ghost_name }
-        ensures put { Puts result (stand (K.written self.old.sink.now) self.old.waiting.items (K.faults self.old.sink.now)) (stand (K.written self.new.sink.now) self.new.waiting.items (K.faults self.new.sink.now)) (line (first.now ∷ map (λ w. w.now) others.now)) }
+        ensures put { Puts result
+            (stand (K.written self.old.sink.now) self.old.waiting.items (K.faults self.old.sink.now))
+            (stand (K.written self.new.sink.now) self.new.waiting.items (K.faults self.new.sink.now)) (line (first.now ∷ map (λ w. w.now) others.now)) }
     {
         self.put(first)?;
         self.end_line(others)

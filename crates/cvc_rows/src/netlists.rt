@@ -156,8 +156,8 @@ fn tops(rt: HostRuntime) -> Result<(), Fail> {
 
 #[test]
 fn parts_of_a_netlist(rt: HostRuntime) -> Result<(), Fail> {
-    let bytes =
-        b".PARAM w=1\n.SUBCKT c a b w=2\n.PARAM x=3 y=4\nR1 a b 1\n.PARAM w=5\n.ENDS\n.PARAM z=6\n*.GLOBAL vdd! vss!\n.GLOBAL vss! gnd! vdd!\nR1 n m 1\nX1 n m c";
+    let bytes = b".PARAM w=1\n.SUBCKT c a b w=2\n.PARAM x=3 y=4\nR1 a b 1\n.PARAM w=5\n.ENDS\n\
+        .PARAM z=6\n*.GLOBAL vdd! vss!\n.GLOBAL vss! gnd! vdd!\nR1 n m 1\nX1 n m c";
     let Ok(netlist) = read(rt.alloc(), bytes, None) else {
         return Err("refused".into());
     };

@@ -153,7 +153,8 @@ fn every_part_is_printed_in_order(rt: HostRuntime) -> Result<(), Fail> {
     let netlist = all_parts(rt.alloc())?;
     let printed = netlist_text(rt.alloc(), &netlist)?;
     let expected =
-        b"*.GLOBAL VDD VSS\n.PARAM $p=1 $p=2\n.SUBCKT INV A Y $w=1u\nMN Y A VSS VSS $[nch] $L=w $W=2u\n.ENDS\nX1 in out / INV $w=3u\nX2 / INV $w=4u $PINS $Y=in $A=out\n";
+        b"*.GLOBAL VDD VSS\n.PARAM $p=1 $p=2\n.SUBCKT INV A Y $w=1u\nMN Y A VSS VSS $[nch] $L=w $W=2u\n.ENDS\n\
+            X1 in out / INV $w=3u\nX2 / INV $w=4u $PINS $Y=in $A=out\n";
     assert_eq!(rt; printed.bytes(), expected.as_slice());
     Ok(())
 }

@@ -128,11 +128,13 @@ fn two_threads_on_the_ring_of_pass_gates(rt: HostRuntime) -> Result<(), Fail> {
         &rt,
         &mut ||
             requires { IfSome front (IsHandOf field) × (0 < devices field.circuit.now) }
-            ensures { IfSome front.entry (λ h. IfSome front.exit (λ g. IsHandOf field.entry g × (g.first ≡ h.first) × (g.numbers ≡ h.numbers)) × IsSome front.exit) }
+            ensures { IfSome front.entry (λ h. IfSome front.exit (λ g. IsHandOf field.entry g × (g.first ≡ h.first) × (g.numbers ≡ h.numbers))
+                × IsSome front.exit) }
         { work(&field, &mut front) },
         &mut ||
             requires { IfSome back (IsHandOf field) × (0 < devices field.circuit.now) }
-            ensures { IfSome back.entry (λ h. IfSome back.exit (λ g. IsHandOf field.entry g × (g.first ≡ h.first) × (g.numbers ≡ h.numbers)) × IsSome back.exit) }
+            ensures { IfSome back.entry (λ h. IfSome back.exit (λ g. IsHandOf field.entry g × (g.first ≡ h.first) × (g.numbers ≡ h.numbers))
+                × IsSome back.exit) }
         { work(&field, &mut back) },
     );
     let (Some(a), Some(b)) = (front, back) else {

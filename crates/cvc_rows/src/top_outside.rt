@@ -140,11 +140,16 @@ fn survey_of_generated_stages(rt: HostRuntime) -> Result<(), Fail> {
     for (words, text) in [
         (
             [b"gen".as_slice(), b"0", b"60000", b"workers=8"].as_slice(),
-            b"CVC survey seed 0 size 60000\ndevices 108000 nets 72003 declared 3\novervoltage-gs 0\novervoltage-gd 0\novervoltage-ds 0\novervoltage-bs 0\novervoltage-bd 0\novervoltage-bg 0\nforward-bias 0\nsource-bulk 0\npossible-leak 0\nsupply-path 0\nfloating-gate 12000\nsure-leak 0\nerrors 12000\n".as_slice(),
+            b"CVC survey seed 0 size 60000\ndevices 108000 nets 72003 declared 3\n\
+                overvoltage-gs 0\novervoltage-gd 0\novervoltage-ds 0\novervoltage-bs 0\novervoltage-bd 0\novervoltage-bg 0\n\
+                forward-bias 0\nsource-bulk 0\npossible-leak 0\nsupply-path 0\nfloating-gate 12000\nsure-leak 0\nerrors 12000\n"
+                .as_slice(),
         ),
         (
             &[b"gen".as_slice(), b"4", b"1"],
-            b"CVC survey seed 4 size 1\ndevices 2 nets 5 declared 3\novervoltage-gs 0\novervoltage-gd 0\novervoltage-ds 0\novervoltage-bs 0\novervoltage-bd 0\novervoltage-bg 0\nforward-bias 0\nsource-bulk 0\npossible-leak 0\nsupply-path 0\nfloating-gate 1\nsure-leak 0\nerrors 1\n",
+            b"CVC survey seed 4 size 1\ndevices 2 nets 5 declared 3\n\
+                overvoltage-gs 0\novervoltage-gd 0\novervoltage-ds 0\novervoltage-bs 0\novervoltage-bd 0\novervoltage-bg 0\n\
+                forward-bias 0\nsource-bulk 0\npossible-leak 0\nsupply-path 0\nfloating-gate 1\nsure-leak 0\nerrors 1\n",
         ),
     ] {
         let mut shelf = MemShelf::new(alloc);

@@ -55,12 +55,16 @@ fn resistors_and_supplies(rt: HostRuntime) -> Result<(), Fail> {
 }
 
 pub(super) const INVERTERS: Row = Row {
-    netlist: b"****************\n* two inverters\n*.BIPOLAR\n*.RESI = 2000\n*.SCALE METER\n*.MEGA\n.PARAM\n\n*.GLOBAL vdd!\n+        vss!\n*.PIN vdd!\n*+    vss!\n.SUBCKT inv A Y\n*.PININFO A:I Y:O\nMM0 Y A vss! vss! nch W=1u L=60n m=1\nMM1 Y A vdd! vdd! pch W=2u L=60n m=1\n.ENDS\n.SUBCKT top IN OUT\n*.PININFO IN:I OUT:O\nXI0 IN net1 / inv\nXI1 net1 OUT / inv\n.ENDS\n",
+    netlist: b"****************\n* two inverters\n*.BIPOLAR\n*.RESI = 2000\n*.SCALE METER\n*.MEGA\n.PARAM\n\n\
+        *.GLOBAL vdd!\n+        vss!\n*.PIN vdd!\n*+    vss!\n\
+        .SUBCKT inv A Y\n*.PININFO A:I Y:O\nMM0 Y A vss! vss! nch W=1u L=60n m=1\nMM1 Y A vdd! vdd! pch W=2u L=60n m=1\n.ENDS\n\
+        .SUBCKT top IN OUT\n*.PININFO IN:I OUT:O\nXI0 IN net1 / inv\nXI1 net1 OUT / inv\n.ENDS\n",
     models: b"nch nmos Vth=0.4 Vgs=1.32 Vgd=1.32 Vds=1.32\npch pmos Vth=-0.4 Vgs=1.32 Vgd=1.32 Vds=1.32\n",
     power: b"vdd! power 1.2\nvss! power 0\nIN input 0 1.2\n",
     options: NETS,
     status: 0,
-    text: b"CVC report\ntop top devices 4 nets 5 declared 3\nnet vdd! declared 1200 1200\nnet vss! declared 0 0\nnet IN declared 0 1200\nnet OUT 0 1200\nnet net1 0 1200\nerrors 0\n",
+    text: b"CVC report\ntop top devices 4 nets 5 declared 3\n\
+        net vdd! declared 1200 1200\nnet vss! declared 0 0\nnet IN declared 0 1200\nnet OUT 0 1200\nnet net1 0 1200\nerrors 0\n",
 };
 
 #[test]
@@ -76,7 +80,8 @@ const PASS_GATE: Row = Row {
     power: b"src power 3.3\nen power 3.3\nvss power 0\n",
     options: NETS,
     status: 0,
-    text: b"CVC report\ntop - devices 1 nets 4 declared 3\nnet out ? 2600\nnet en declared 3300 3300\nnet src declared 3300 3300\nnet vss declared 0 0\nerrors 0\n",
+    text: b"CVC report\ntop - devices 1 nets 4 declared 3\n\
+        net out ? 2600\nnet en declared 3300 3300\nnet src declared 3300 3300\nnet vss declared 0 0\nerrors 0\n",
 };
 
 #[test]
@@ -86,18 +91,21 @@ fn nmos_passes_high_less_threshold(rt: HostRuntime) -> Result<(), Fail> {
         // The gate at 0 volts turns it off.
         Row {
             power: b"src power 3.3\nen power 0\nvss power 0\n",
-            text: b"CVC report\ntop - devices 1 nets 4 declared 3\nnet out ? ?\nnet en declared 0 0\nnet src declared 3300 3300\nnet vss declared 0 0\nerrors 0\n",
+            text: b"CVC report\ntop - devices 1 nets 4 declared 3\n\
+                net out ? ?\nnet en declared 0 0\nnet src declared 3300 3300\nnet vss declared 0 0\nerrors 0\n",
             ..PASS_GATE
         },
         // Of two corners the lesser threshold conducts most, in whichever order they are written.
         Row {
             models: b"nhv nmos Vth=0.8:0.6\n",
-            text: b"CVC report\ntop - devices 1 nets 4 declared 3\nnet out ? 2700\nnet en declared 3300 3300\nnet src declared 3300 3300\nnet vss declared 0 0\nerrors 0\n",
+            text: b"CVC report\ntop - devices 1 nets 4 declared 3\n\
+                net out ? 2700\nnet en declared 3300 3300\nnet src declared 3300 3300\nnet vss declared 0 0\nerrors 0\n",
             ..PASS_GATE
         },
         Row {
             models: b"nhv nmos Vth=0.6:0.8\n",
-            text: b"CVC report\ntop - devices 1 nets 4 declared 3\nnet out ? 2700\nnet en declared 3300 3300\nnet src declared 3300 3300\nnet vss declared 0 0\nerrors 0\n",
+            text: b"CVC report\ntop - devices 1 nets 4 declared 3\n\
+                net out ? 2700\nnet en declared 3300 3300\nnet src declared 3300 3300\nnet vss declared 0 0\nerrors 0\n",
             ..PASS_GATE
         },
     ];
@@ -176,7 +184,8 @@ fn level_shift_leak(rt: HostRuntime) -> Result<(), Fail> {
         // At both corners it conducts.
         Row {
             models: b"nhv nmos Vth=0.7\nphv pmos Vth=-0.5:-1.5\n",
-            text: b"CVC report\ntop - devices 2 nets 4 declared 3\npossible-leak M1 phv gate 0 1200 channel 0 3300\nsure-leak M1 phv gate 0 1200 channel 0 3300\nerrors 2\n",
+            text: b"CVC report\ntop - devices 2 nets 4 declared 3\n\
+                possible-leak M1 phv gate 0 1200 channel 0 3300\nsure-leak M1 phv gate 0 1200 channel 0 3300\nerrors 2\n",
             ..leak
         },
     ];
@@ -202,7 +211,8 @@ fn floating_gate(rt: HostRuntime) -> Result<(), Fail> {
             power: b"vss power 0\nsrc power 3.3\nen power 3.3\n",
             options: NETS,
             status: 0,
-            text: b"CVC report\ntop - devices 2 nets 5 declared 3\nnet y 0 0\nnet g ? 2600\nnet vss declared 0 0\nnet en declared 3300 3300\nnet src declared 3300 3300\nerrors 0\n",
+            text: b"CVC report\ntop - devices 2 nets 5 declared 3\n\
+                net y 0 0\nnet g ? 2600\nnet vss declared 0 0\nnet en declared 3300 3300\nnet src declared 3300 3300\nerrors 0\n",
         },
     ];
     expect_rows(&rt, rt.alloc(), &rows)?;

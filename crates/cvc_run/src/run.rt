@@ -87,8 +87,12 @@ pub fn check_serial<S: Shelf, K: Sink>(
     ensures shelf { Leaves (S.standing shelf.new) (S.files shelf.old) (S.files shelf.new) (S.faults shelf.old) (S.faults shelf.new) }
     ensures sink { K.faults sink.old ≤ K.faults sink.new }
     // The status and the bytes are the outcome's, or a fault of the outside came in this call, or memory ran out.
-    ensures answer { Answers (JobOutcome (S.files shelf.old) job.now) (DueFailed (job_readings (S.files shelf.old) job.now) (S.faults shelf.old) (S.faults shelf.new)) (taken (K.written sink.old) (K.written sink.new) (K.faults sink.old) (K.faults sink.new)) result }
-    ensures answered { JobIsAnswered (S.files shelf.old) job.now (DueFailed (job_readings (S.files shelf.old) job.now) (S.faults shelf.old) (S.faults shelf.new)) (taken (K.written sink.old) (K.written sink.new) (K.faults sink.old) (K.faults sink.new)) result }
+    ensures answer { Answers (JobOutcome (S.files shelf.old) job.now)
+        (DueFailed (job_readings (S.files shelf.old) job.now) (S.faults shelf.old) (S.faults shelf.new))
+        (taken (K.written sink.old) (K.written sink.new) (K.faults sink.old) (K.faults sink.new)) result }
+    ensures answered { JobIsAnswered (S.files shelf.old) job.now
+        (DueFailed (job_readings (S.files shelf.old) job.now) (S.faults shelf.old) (S.faults shelf.new))
+        (taken (K.written sink.old) (K.written sink.new) (K.faults sink.old) (K.faults sink.new)) result }
 {
     let run = judge_files_serial(alloc, job, shelf);
     tell(&run, Telling::Report { nets: job.nets }, sink)
@@ -110,8 +114,12 @@ pub fn check<R: Threads + Wait + Sync, S: Shelf, K: Sink, G: Gate>(
     ensures shelf { Leaves (S.standing shelf.new) (S.files shelf.old) (S.files shelf.new) (S.faults shelf.old) (S.faults shelf.new) }
     ensures sink { K.faults sink.old ≤ K.faults sink.new }
     // The status and the bytes are the outcome's, or a fault of the outside came in this call, or memory ran out.
-    ensures answer { Answers (JobOutcome (S.files shelf.old) job.now) (DueFailed (job_readings (S.files shelf.old) job.now) (S.faults shelf.old) (S.faults shelf.new)) (taken (K.written sink.old) (K.written sink.new) (K.faults sink.old) (K.faults sink.new)) result }
-    ensures answered { JobIsAnswered (S.files shelf.old) job.now (DueFailed (job_readings (S.files shelf.old) job.now) (S.faults shelf.old) (S.faults shelf.new)) (taken (K.written sink.old) (K.written sink.new) (K.faults sink.old) (K.faults sink.new)) result }
+    ensures answer { Answers (JobOutcome (S.files shelf.old) job.now)
+        (DueFailed (job_readings (S.files shelf.old) job.now) (S.faults shelf.old) (S.faults shelf.new))
+        (taken (K.written sink.old) (K.written sink.new) (K.faults sink.old) (K.faults sink.new)) result }
+    ensures answered { JobIsAnswered (S.files shelf.old) job.now
+        (DueFailed (job_readings (S.files shelf.old) job.now) (S.faults shelf.old) (S.faults shelf.new))
+        (taken (K.written sink.old) (K.written sink.new) (K.faults sink.old) (K.faults sink.new)) result }
 {
     let run = judge_files(rt, alloc, job, shelf, gate);
     tell(&run, Telling::Report { nets: job.nets }, sink)
@@ -135,7 +143,8 @@ pub fn survey<R: Threads + Wait + Sync, K: Sink, G: Gate>(
     ensures sink { K.faults sink.old ≤ K.faults sink.new }
     // The status and the bytes are the outcome's, or the sink failed in this call, or memory ran out.
     ensures answer { Answers (SurveyOutcome seed size) ⊥ (taken (K.written sink.old) (K.written sink.new) (K.faults sink.old) (K.faults sink.new)) result }
-    ensures answered { AcceptedIsAnswered (SurveyOutcome seed size) (survey_said seed size) ⊥ (taken (K.written sink.old) (K.written sink.new) (K.faults sink.old) (K.faults sink.new)) result }
+    ensures answered { AcceptedIsAnswered (SurveyOutcome seed size) (survey_said seed size) ⊥
+        (taken (K.written sink.old) (K.written sink.new) (K.faults sink.old) (K.faults sink.new)) result }
 {
     let run = judge_generated(rt, alloc, seed, size, workers, gate);
     tell(&run, Telling::Summary { seed, size }, sink)

@@ -95,9 +95,11 @@ pub(crate) fn read_design<S: Shelf>(
     shelf: &mut S,
 ) -> Result<Design, RunStop>
     requires { S.standing shelf.old ≡ None }
-    ensures design { IfSome (S.files shelf.old) (λ fs. Says (λ d. parts d.flat.list d.models) result (design_of (named_top top.entry) (content fs netlist.now) (content fs models.now))) }
+    ensures design { IfSome (S.files shelf.old) (λ fs. Says (λ d. parts d.flat.list d.models) result
+        (design_of (named_top top.entry) (content fs netlist.now) (content fs models.now))) }
     ensures bindable { IfOk result (λ d. AreBindable d.models) }
-    ensures cause { ReadOnlyWhere result (DueFailed (design_readings (S.files shelf.old) (named_top top.entry) netlist.now models.now) (S.faults shelf.old) (S.faults shelf.new)) }
+    ensures cause { ReadOnlyWhere result
+        (DueFailed (design_readings (S.files shelf.old) (named_top top.entry) netlist.now models.now) (S.faults shelf.old) (S.faults shelf.new)) }
     ensures shelf { Leaves (S.standing shelf.new) (S.files shelf.old) (S.files shelf.new) (S.faults shelf.old) (S.faults shelf.new) }
 {
     let flat = as_step(Status::Netlist, load_flat(alloc, netlist, top, shelf))?;
@@ -128,9 +130,11 @@ pub fn load_design<S: Shelf>(
     shelf: &mut S,
 ) -> Result<Design, LoadFault>
     requires { S.standing shelf.old ≡ None }
-    ensures design { IfSome (S.files shelf.old) (λ fs. LoadsAll (λ d. parts d.flat.list d.models) result (design_of (named_top top.entry) (content fs netlist.now) (content fs models.now))) }
+    ensures design { IfSome (S.files shelf.old) (λ fs. LoadsAll (λ d. parts d.flat.list d.models) result
+        (design_of (named_top top.entry) (content fs netlist.now) (content fs models.now))) }
     ensures bindable { IfOk result (λ d. AreBindable d.models) }
-    ensures cause { UnreadOnlyWhere result (DueFailed (design_readings (S.files shelf.old) (named_top top.entry) netlist.now models.now) (S.faults shelf.old) (S.faults shelf.new)) }
+    ensures cause { UnreadOnlyWhere result
+        (DueFailed (design_readings (S.files shelf.old) (named_top top.entry) netlist.now models.now) (S.faults shelf.old) (S.faults shelf.new)) }
     ensures shelf { Leaves (S.standing shelf.new) (S.files shelf.old) (S.files shelf.new) (S.faults shelf.old) (S.faults shelf.new) }
 {
     match read_design(alloc, netlist, models, name_bytes(top), shelf) {

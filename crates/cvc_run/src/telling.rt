@@ -75,7 +75,8 @@ fn write_judged<K: Sink>(judged: &Judged, telling: Telling, sink: &mut K) -> Res
 fn tell_judged<K: Sink>(judged: &Judged, telling: Telling, sink: &mut K) -> Status
     requires { IsJudged judged.now }
     ensures counts { K.faults sink.old ≤ K.faults sink.new }
-    ensures ends { Ends (status_of judged.now.findings) (text_of_judged telling judged.now) (taken (K.written sink.old) (K.written sink.new) (K.faults sink.old) (K.faults sink.new)) result }
+    ensures ends { Ends (status_of judged.now.findings) (text_of_judged telling judged.now)
+        (taken (K.written sink.old) (K.written sink.new) (K.faults sink.old) (K.faults sink.new)) result }
 {
     match write_judged(judged, telling, sink) {
         Ok(()) => status_of(&judged.findings),

@@ -84,8 +84,10 @@ impl Engine {
         requires device { d.0 < devices circuit.now }
         requires slot { slot < 4 }
         requires reached { IsReached circuit.now self.old.bounds.items (heap_items self.old.waiting) }
-        ensures onward { OnOk result (IsOnward circuit.now self.old.bounds.items (heap_items self.old.waiting) self.new.bounds.items (heap_items self.new.waiting)) }
-        ensures tried { OnOk result (Rests circuit.now (heap_items self.new.waiting) d.0 slot → IsTried circuit.now self.new.bounds.items (device_at circuit.now d.0) slot) }
+        ensures onward { OnOk result (IsOnward circuit.now self.old.bounds.items (heap_items self.old.waiting)
+            self.new.bounds.items (heap_items self.new.waiting)) }
+        ensures tried { OnOk result (Rests circuit.now (heap_items self.new.waiting) d.0 slot
+            → IsTried circuit.now self.new.bounds.items (device_at circuit.now d.0) slot) }
     {
         if let Some(found) = widening_of(circuit, &self.bounds, d, slot) {
             self.bounds[found.bound.net.0 as usize] = found.interval;
@@ -98,7 +100,8 @@ impl Engine {
     fn try_device(&mut self, circuit: &Circuit, d: DevId, bound: Pending) -> Result<(), NoMemory>
         requires device { d.0 < devices circuit.now }
         requires reached { IsReached circuit.now self.old.bounds.items (heap_items self.old.waiting) }
-        ensures onward { OnOk result (IsOnward circuit.now self.old.bounds.items (heap_items self.old.waiting) self.new.bounds.items (heap_items self.new.waiting)) }
+        ensures onward { OnOk result (IsOnward circuit.now self.old.bounds.items (heap_items self.old.waiting)
+            self.new.bounds.items (heap_items self.new.waiting)) }
         ensures tried { OnOk result (AreTriedFor circuit.now self.new.bounds.items (heap_items self.new.waiting) bound d.0) }
     {
         for slot in 0..4 {
@@ -113,7 +116,8 @@ impl Engine {
     pub(crate) fn visit(&mut self, circuit: &Circuit, bound: Pending) -> Result<(), NoMemory>
         requires { IsSettling circuit.now self.old.bounds.items (bound ∷ heap_items self.old.waiting) }
         ensures settling { OnOk result (IsSettling circuit.now self.new.bounds.items (heap_items self.new.waiting)) }
-        ensures work { OnOk result (work_left circuit.now self.new.bounds.items (heap_items self.new.waiting) ≤ work_left circuit.now self.old.bounds.items (heap_items self.old.waiting)) }
+        ensures work { OnOk result (work_left circuit.now self.new.bounds.items (heap_items self.new.waiting)
+            ≤ work_left circuit.now self.old.bounds.items (heap_items self.old.waiting)) }
     {
         for d in circuit.fan(bound.net) {
             self.try_device(circuit, *d, bound)?;

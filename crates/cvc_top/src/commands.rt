@@ -21,7 +21,8 @@ use std::thread::Threads;
 // Writes the line of refused words.
 fn refuse_words<K: Sink>(fault: WordFault, sink: &mut K) -> Status
     ensures counts { K.faults sink.old ≤ K.faults sink.new }
-    ensures ends { Ends statuses.Words (word_refusal (word_of fault)) (taken (K.written sink.old) (K.written sink.new) (K.faults sink.old) (K.faults sink.new)) result }
+    ensures ends { Ends statuses.Words (word_refusal (word_of fault))
+        (taken (K.written sink.old) (K.written sink.new) (K.faults sink.old) (K.faults sink.new)) result }
 {
     match write_word_refusal(fault.word(), sink) {
         Ok(()) => Status::Words,
@@ -42,8 +43,12 @@ fn run_command<R: Threads + Wait + Sync, S: Shelf, K: Sink>(
     ensures shelf { Leaves (S.standing shelf.new) (S.files shelf.old) (S.files shelf.new) (S.faults shelf.old) (S.faults shelf.new) }
     ensures untouched { IsFileless command.now → shelf.new ≡ shelf.old }
     ensures sink { K.faults sink.old ≤ K.faults sink.new }
-    ensures answer { Answers (CommandOutcome (S.files shelf.old) command.now) (CommandFailed (S.files shelf.old) command.now (S.faults shelf.old) (S.faults shelf.new)) (taken (K.written sink.old) (K.written sink.new) (K.faults sink.old) (K.faults sink.new)) result }
-    ensures answered { CommandIsAnswered (S.files shelf.old) command.now (CommandFailed (S.files shelf.old) command.now (S.faults shelf.old) (S.faults shelf.new)) (taken (K.written sink.old) (K.written sink.new) (K.faults sink.old) (K.faults sink.new)) result }
+    ensures answer { Answers (CommandOutcome (S.files shelf.old) command.now)
+        (CommandFailed (S.files shelf.old) command.now (S.faults shelf.old) (S.faults shelf.new))
+        (taken (K.written sink.old) (K.written sink.new) (K.faults sink.old) (K.faults sink.new)) result }
+    ensures answered { CommandIsAnswered (S.files shelf.old) command.now
+        (CommandFailed (S.files shelf.old) command.now (S.faults shelf.old) (S.faults shelf.new))
+        (taken (K.written sink.old) (K.written sink.new) (K.faults sink.old) (K.faults sink.new)) result }
 {
     match command {
         Command::Check(job) => check(rt, alloc, job, shelf, sink, &NoGate),
@@ -71,8 +76,12 @@ pub fn top<R: Threads + Wait + Sync, S: Shelf, K: Sink>(
     ensures untouched { AreFileless (command_of words.now) → shelf.new ≡ shelf.old }
     ensures sink { K.faults sink.old ≤ K.faults sink.new }
     // The status and the bytes are the outcome's, or a fault of the outside came in this call, or memory ran out.
-    ensures answer { Answers (WordsOutcome (S.files shelf.old) (command_of words.now)) (WordsFailed (S.files shelf.old) (command_of words.now) (S.faults shelf.old) (S.faults shelf.new)) (taken (K.written sink.old) (K.written sink.new) (K.faults sink.old) (K.faults sink.new)) result }
-    ensures answered { WordsAreAnswered (S.files shelf.old) (command_of words.now) (WordsFailed (S.files shelf.old) (command_of words.now) (S.faults shelf.old) (S.faults shelf.new)) (taken (K.written sink.old) (K.written sink.new) (K.faults sink.old) (K.faults sink.new)) result }
+    ensures answer { Answers (WordsOutcome (S.files shelf.old) (command_of words.now))
+        (WordsFailed (S.files shelf.old) (command_of words.now) (S.faults shelf.old) (S.faults shelf.new))
+        (taken (K.written sink.old) (K.written sink.new) (K.faults sink.old) (K.faults sink.new)) result }
+    ensures answered { WordsAreAnswered (S.files shelf.old) (command_of words.now)
+        (WordsFailed (S.files shelf.old) (command_of words.now) (S.faults shelf.old) (S.faults shelf.new))
+        (taken (K.written sink.old) (K.written sink.new) (K.faults sink.old) (K.faults sink.new)) result }
 {
     match read_words(alloc, words) {
         Ok(command) => run_command(rt, alloc, &command, shelf, sink),
