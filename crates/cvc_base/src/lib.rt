@@ -27,6 +27,3 @@ pub use param::{Pair, Pairs, Param, Params, Value};
 pub use rule::Rule;
 pub use stop::Stop;
 pub use text::{Text, Texts};
-
-#[cfg(test)]
-mod tests;

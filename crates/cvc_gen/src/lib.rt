@@ -6,6 +6,3 @@
 mod stages;
 
 pub use stages::{Generated, netlist_of};
-
-#[cfg(test)]
-mod tests;

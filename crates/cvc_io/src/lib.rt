@@ -22,6 +22,3 @@ pub use shelf::Shelf;
 pub use sink::Sink;
 pub use std_sink::StdSink;
 pub use sure_shelf::SureShelf;
-
-#[cfg(test)]
-mod tests;

@@ -18,6 +18,3 @@ mod words;
 pub use models::{Choice, Models};
 pub use reading::read_models;
 pub use row::{ModelRow, Test, Tests};
-
-#[cfg(test)]
-mod tests;

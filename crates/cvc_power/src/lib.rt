@@ -8,6 +8,3 @@ mod row;
 
 pub use reading::{Power, read_power};
 pub use row::PowerRow;
-
-#[cfg(test)]
-mod tests;

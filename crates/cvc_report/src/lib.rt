@@ -13,6 +13,3 @@ mod writer;
 pub use refusal::{write_refusal, write_word_refusal};
 pub use report::write_report;
 pub use summary::write_summary;
-
-#[cfg(test)]
-mod tests;

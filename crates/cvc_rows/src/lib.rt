@@ -1,4 +1,4 @@
-//! Worked rows that cross crates, as tests. There is no other code here.
+//! The tests of public calls: worked rows of one crate, and rows that cross crates. There is no other code here.
 #![tactic(auto)]
 
 #[cfg(test)]
@@ -12,6 +12,8 @@ mod fields;
 #[cfg(test)]
 mod flat_lists;
 #[cfg(test)]
+mod generated;
+#[cfg(test)]
 mod lexed;
 #[cfg(test)]
 mod lines;
@@ -22,9 +24,19 @@ mod machine;
 #[cfg(test)]
 mod made;
 #[cfg(test)]
+mod model_files;
+#[cfg(test)]
 mod netlists;
 #[cfg(test)]
+mod outside;
+#[cfg(test)]
+mod plain_types;
+#[cfg(test)]
+mod power_files;
+#[cfg(test)]
 mod printed;
+#[cfg(test)]
+mod reports;
 #[cfg(test)]
 mod rules;
 #[cfg(test)]
@@ -45,3 +57,5 @@ mod top_reports;
 mod top_runs;
 #[cfg(test)]
 mod top_workers;
+#[cfg(test)]
+mod words;

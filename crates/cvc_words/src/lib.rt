@@ -12,6 +12,3 @@ mod read;
 pub use command::{Command, Job};
 pub use fault::{WordFault, WordRefusal};
 pub use read::read_words;
-
-#[cfg(test)]
-mod tests;

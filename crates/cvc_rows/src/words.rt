@@ -1,5 +1,7 @@
-use super::*;
+//! Lines of words: their commands, and their first faults.
+
 use cvc_base::{Text, Texts};
+use cvc_words::{Command, WordRefusal, read_words};
 use std::alloc::Global;
 use std::test::Fail;
 

@@ -1,6 +1,7 @@
+//! Voltages, texts, lists and stops: that they keep what they are given.
 ghost use Rattle.std.specs.Prelude.{◌≡◌, pos};
 
-use super::*;
+use cvc_base::{Cause, Fault, FileKind, ItemList, Mv, NoMemory, Refusal, Stop, Text, Texts, Token};
 use std::alloc::Global;
 use std::mem::size_of;
 use std::test::Fail;

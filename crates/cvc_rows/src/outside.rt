@@ -1,7 +1,8 @@
+//! The shelves and sinks: those in memory, and the real files and standard output.
 ghost use Rattle.std.specs.Prelude.{◌≡◌, None};
 
-use super::*;
 use cvc_base::NoMemory;
+use cvc_io::{CountSink, FileShelf, MemShelf, MemSink, Shelf, Sink, StdSink, SureShelf};
 use std::alloc::Global;
 use std::test::Fail;
 use std::{env, fs};

@@ -1,13 +1,12 @@
-ghost use Rattle.std.specs.Prelude.{◌≡◌, ◌≤ℤ◌, ℕ, [], IsTrue, Some, None, slice_index_or};
-ghost use Rattle.cvc_law.specs.declared.interval.Fixed.{Fixed};
-ghost use Rattle.cvc_law.specs.Network.{IsCircuit};
+//! Texts as they go to a sink: lines of refusals, and a summary.
+ghost use Rattle.std.specs.Prelude.{None};
 
-use super::*;
-use cvc_base::{Cause, DevId, Fault, FileKind, Finding, Findings, Mv, NoMemory, Place, Rule};
+use crate::conduction::circuit;
+use crate::rules::build::{UNKNOWN, at};
+use cvc_base::{Cause, DevId, Fault, FileKind, Finding, Findings, NoMemory, Rule};
 use cvc_io::{MemSink, Sink, WriteFailed};
-use cvc_law::{Circuit, Fixed};
+use cvc_report::{write_refusal, write_summary, write_word_refusal};
 use std::alloc::Global;
-use std::process::Abort;
 use std::test::Fail;
 
 /// A sink that takes every piece whole, counts the calls, and keeps no byte.
@@ -29,30 +28,23 @@ impl Sink for Calls {
     }
 }
 
-fn fault(file: FileKind, line: u32, cause: Cause) -> Fault {
-    Fault {
-        place: Place { file, line },
-        cause,
-    }
-}
-
 #[test]
 fn a_refusal_is_one_line(rt: HostRuntime) -> Result<(), Fail> {
     for (refused, wanted) in [
         (
-            fault(FileKind::Netlist, 3, Cause::ShortCard),
+            Fault::at(FileKind::Netlist, 3, Cause::ShortCard),
             b"refused netlist line 3 short-card\n".as_slice(),
         ),
         (
-            fault(FileKind::Netlist, 0, Cause::NoTop),
+            Fault::at(FileKind::Netlist, 0, Cause::NoTop),
             b"refused netlist line 0 no-top\n",
         ),
         (
-            fault(FileKind::Models, 16_777_217, Cause::FileTooLong),
+            Fault::at(FileKind::Models, 16_777_217, Cause::FileTooLong),
             b"refused models line 16777217 file-too-long\n",
         ),
         (
-            fault(FileKind::Power, 4_294_967_295, Cause::SameNetTwice),
+            Fault::at(FileKind::Power, 4_294_967_295, Cause::SameNetTwice),
             b"refused power line 4294967295 same-net-twice\n",
         ),
     ] {
@@ -73,7 +65,7 @@ fn refused_words_are_one_line(rt: HostRuntime) -> Result<(), Fail> {
 
 #[test]
 fn a_sink_of_every_room_has_a_front(rt: HostRuntime) -> Result<(), Fail> {
-    let refused = fault(FileKind::Netlist, 2, Cause::UnknownCell);
+    let refused = Fault::at(FileKind::Netlist, 2, Cause::UnknownCell);
     let whole = b"refused netlist line 2 unknown-cell\n".as_slice();
     for room in 0..40 {
         let mut sink = MemSink::new(rt.alloc(), room)?;
@@ -109,41 +101,6 @@ fn a_long_text_is_written_in_large_pieces(rt: HostRuntime) -> Result<(), Fail> {
     Ok(())
 }
 
-/// Whether no low lies above its high.
-fn are_ordered(fixed: &[Option<Fixed>]) -> bool
-    ensures { IsTrue result → (n : ℕ) (w : Fixed) → slice_index_or fixed.now n None ≡ Some w → w.low ≤ℤ w.high }
-{
-    for declared in fixed {
-        if let Some(declared) = declared {
-            if declared.low.get() > declared.high.get() {
-                return false;
-            }
-        }
-    }
-    true
-}
-
-/// Whether these nets make a circuit without devices.
-fn is_circuit(fixed: &[Option<Fixed>]) -> bool
-    ensures { IsTrue result → IsCircuit fixed.now [] }
-{
-    if fixed.len() > 1_000_000 {
-        return false;
-    }
-    are_ordered(fixed)
-}
-
-/// A circuit of five nets without devices, of which three are declared.
-fn five_nets(rt: &impl Abort, alloc: Global) -> Result<Circuit, NoMemory> {
-    let mut fixed = Vec::new(alloc);
-    for declared in [Some(3300), Some(0), None, Some(-1200), None] {
-        let supply = declared.map(|v| Mv::new(v).expect(rt, "within a million millivolts"));
-        fixed.push(supply.map(|v| Fixed { low: v, high: v }))?;
-    }
-    assert!(rt; is_circuit(&fixed));
-    Circuit::new(alloc, fixed, Vec::new(alloc))
-}
-
 /// Findings of these rules at one device.
 fn found(alloc: Global, rules: &[Rule]) -> Result<Findings, NoMemory> {
     let mut findings = Findings::new(alloc);
@@ -162,7 +119,8 @@ fn found(alloc: Global, rules: &[Rule]) -> Result<Findings, NoMemory> {
 
 #[test]
 fn a_summary_counts_the_findings_of_twelve_rules(rt: HostRuntime) -> Result<(), Fail> {
-    let circuit = five_nets(&rt, rt.alloc())?;
+    let nets = [at(3300), at(0), UNKNOWN, at(-1200), UNKNOWN];
+    let circuit = circuit(rt.alloc(), &nets, &[])?;
     let findings = found(
         rt.alloc(),
         &[

@@ -1,5 +1,7 @@
-use crate::{Choice, ModelRow, Models, Test, read_models};
+//! Model files: their refusals, their rows, and the row that is chosen for a device.
+
 use cvc_base::{FileKind, Kind, Mv, NoMemory, Param, Params, Refusal, Text, Value, Volts};
+use cvc_model::{Choice, ModelRow, Models, Test, read_models};
 use cvc_units::read_number;
 use std::alloc::Global;
 use std::test::Fail;

@@ -1,7 +1,13 @@
-use crate::read_power;
+//! Power files: their refusals and their rows.
+
 use cvc_base::Cause::{self, BadByte, BadRow, BadVoltage, LongToken, MinAboveMax, TwiceRow};
-use cvc_base::{Fault, FileKind, Place, Refusal};
+use cvc_base::{Fault, FileKind, Refusal};
+use cvc_power::read_power;
 use std::test::Fail;
+
+fn refused(line: u32, cause: Cause) -> Refusal {
+    Refusal::At(Fault::at(FileKind::Power, line, cause))
+}
 
 #[test]
 fn power_refusals_and_instance_names(rt: HostRuntime) {
@@ -43,12 +49,10 @@ fn power_refusals_and_instance_names(rt: HostRuntime) {
         (b"a\x01\nb", 1, BadByte),
     ];
     for (bytes, line, cause) in files {
-        let place = Place {
-            file: FileKind::Power,
-            line,
-        };
-        let want = Refusal::At(Fault { place, cause });
-        assert_eq!(rt; read_power(rt.alloc(), bytes).err(), Some(want));
+        assert_eq!(rt;
+            read_power(rt.alloc(), bytes).err(),
+            Some(refused(line, cause))
+        );
     }
 }
 
@@ -56,24 +60,18 @@ fn power_refusals_and_instance_names(rt: HostRuntime) {
 fn long_token_after_a_bad_row(rt: HostRuntime) {
     let mut bytes = [b'a'; 1030];
     bytes[1] = b'\n';
-    let at = |line, cause| {
-        Refusal::At(Fault {
-            place: Place {
-                file: FileKind::Power,
-                line,
-            },
-            cause,
-        })
-    };
-    assert_eq!(rt; read_power(rt.alloc(), &bytes).err(), Some(at(1, BadRow)));
+    assert_eq!(rt;
+        read_power(rt.alloc(), &bytes).err(),
+        Some(refused(1, BadRow))
+    );
     bytes[0] = b'#';
     assert_eq!(rt;
         read_power(rt.alloc(), &bytes).err(),
-        Some(at(2, LongToken))
+        Some(refused(2, LongToken))
     );
     assert_eq!(rt;
         read_power(rt.alloc(), &bytes[..1026]).err(),
-        Some(at(2, BadRow))
+        Some(refused(2, BadRow))
     );
 }
 

@@ -1,8 +1,12 @@
-use super::*;
+//! The texts of generated circuits.
+
+use cvc_gen::netlist_of;
 use std::test::Fail;
 
-const CELLS: &[u8] =
-    b"*.GLOBAL VDD VSS\n.SUBCKT INV A Y\nMN Y A VSS VSS nch L=0.1u\nMP Y A VDD VDD pch L=0.1u\n.ENDS\n.SUBCKT LINK A Y\nR1 A Y 100\n.ENDS\n.SUBCKT LOST A Y\nR1 A Y 100\nMN Y F VSS VSS nch L=0.1u\n.ENDS\n";
+const CELLS: &[u8] = b"*.GLOBAL VDD VSS\n\
+    .SUBCKT INV A Y\nMN Y A VSS VSS nch L=0.1u\nMP Y A VDD VDD pch L=0.1u\n.ENDS\n\
+    .SUBCKT LINK A Y\nR1 A Y 100\n.ENDS\n\
+    .SUBCKT LOST A Y\nR1 A Y 100\nMN Y F VSS VSS nch L=0.1u\n.ENDS\n";
 
 // Whole texts; the largest seed has the remainder 0, and a power of 2 to the 64 would have 1.
 #[test]
