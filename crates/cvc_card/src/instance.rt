@@ -58,7 +58,8 @@ fn has_twice(alloc: Global, pairs: &[NamedValue<'_>]) -> Result<bool, NoMemory>
 
 /// Whether something stands beside connections by name, or a port is connected twice.
 fn are_bad_pins(alloc: Global, nets: &[&[u8]], parts: &Parts<'_>) -> Result<bool, NoMemory>
-    ensures { IfOk result (λ bad. bad ≡ (parts.now.by_name && (not (length nets.now == 0) || parts.now.late_plain || has_twice (map name_of parts.now.connections.items)))) }
+    ensures { IfOk result (λ bad. bad ≡ (parts.now.by_name
+        && (not (length nets.now == 0) || parts.now.late_plain || has_twice (map name_of parts.now.connections.items)))) }
 {
     if !parts.by_name {
         return Ok(false);

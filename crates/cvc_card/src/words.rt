@@ -1,6 +1,7 @@
 //! Tests of one token.
 ghost use Rattle.std.specs.Prelude.{◌≡◌, IsTrue};
-ghost use Rattle.cvc_card.specs.Words.{between_brackets, is_bracket, is_broken_bracket, is_closed, is_dollar, is_equals, is_expression, is_keyword, is_model_bracket, is_number, is_slash, without_dollar};
+ghost use Rattle.cvc_card.specs.Words.{between_brackets, is_bracket, is_broken_bracket, is_closed, is_dollar, is_equals, is_expression, is_keyword};
+ghost use Rattle.cvc_card.specs.Words.{is_model_bracket, is_number, is_slash, without_dollar};
 ghost use Rattle.std.specs.Option.{option_map};
 ghost use Rattle.cvc_card.specs.Card.{first_of};
 ghost use Rattle.cvc_card.specs.Reading.{bytes_of, texts_held};

@@ -2,7 +2,8 @@
 ghost use Rattle.std.specs.Prelude.{◌≡◌, [], ◌∷◌, ◌++◌, Some, None, is_some, IfOk};
 ghost use Rattle.cvc_cdl.specs.Netlist.{globals_in, top_of};
 ghost use Rattle.cvc_cdl.specs.Building.{ends_cause};
-ghost use Rattle.cvc_cdl.specs.Drafting.{AreNamed, Becomes, begun_cause, cause_in, cell_held, draft_held, item_cause, names_here, with_card, with_cell, with_globals, with_item, with_pairs, without_level};
+ghost use Rattle.cvc_cdl.specs.Drafting.{AreNamed, Becomes, begun_cause, cause_in, cell_held, draft_held, item_cause, names_here, with_card, with_cell};
+ghost use Rattle.cvc_cdl.specs.Drafting.{with_globals, with_item, with_pairs, without_level};
 ghost use Rattle.cvc_cdl.specs.Builder.{named_top};
 ghost use Rattle.cvc_cdl.specs.Finishing.{Finishes, draft_netlist};
 
@@ -101,7 +102,18 @@ fn top_name(
 impl Draft {
     /// What no cards say.
     pub(crate) fn new(alloc: Heap) -> Draft
-        ensures { draft_held result ≡ record { level = None; globals = []; global_names = []; params = []; cells = []; cell_names = []; items = []; names = []; inner_names = []; places = [] } }
+        ensures { draft_held result ≡ record {
+          level = None;
+          globals = [];
+          global_names = [];
+          params = [];
+          cells = [];
+          cell_names = [];
+          items = [];
+          names = [];
+          inner_names = [];
+          places = [];
+        } }
     {
         Draft {
             alloc,

@@ -16,7 +16,8 @@ fn counts_of(alloc: Global, uses: &[Vec<usize>]) -> Result<Vec<usize>, NoMemory>
 // Notes a cell as a user of each of these cells.
 fn add_user(users: &mut [Vec<usize>], used: &[usize], user: usize) -> Result<(), NoMemory>
     requires { All (λ i. i < length users.old) used.now }
-    ensures { OnOk result ((i j : ℕ) → j < length users.old → times i (used_at (all_numbers users.new) j) ≡ times i (used_at (all_numbers users.old) j) + one_if (user == i) * times j used.now) }
+    ensures { OnOk result ((i j : ℕ) → j < length users.old
+        → times i (used_at (all_numbers users.new) j) ≡ times i (used_at (all_numbers users.old) j) + one_if (user == i) * times j used.now) }
 {
     for cell in used {
         users[*cell].push(user)?;

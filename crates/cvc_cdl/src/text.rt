@@ -1,6 +1,7 @@
 //! The text of a netlist, which reads back as the netlist.
 ghost use Rattle.std.specs.Prelude.{◌≡◌, ◌++◌, OnOk, IfOk, codes};
-ghost use Rattle.cvc_cdl.specs.Text.{cell_text, device_text, global_word, globals_text, instance_text, item_line, items_text, pair_text, pairs_text, params_text, spaced, spaced_words, text_of};
+ghost use Rattle.cvc_cdl.specs.Text.{cell_text, device_text, global_word, globals_text, instance_text, item_line, items_text, pair_text, pairs_text};
+ghost use Rattle.cvc_cdl.specs.Text.{params_text, spaced, spaced_words, text_of};
 ghost use Rattle.std.specs.List.{flat_map};
 
 use crate::netlist::{Cell, Global, Item, Netlist};
