@@ -55,12 +55,15 @@ pub printed_hash : (names : List (List ℕ)) (parts : List InstancePart) (rows :
 unfolding net_hash
 printed_hash names parts rows t r same = ap hash_of (sym ((bytes_decides t (printed_net (net_at names parts (ways_of rows) r))).0 same))
 
-pub row_hash : (names : List (List ℕ)) (parts : List InstancePart) (rows : List InstanceRow) (a b : NetRow) → is_row a b ≡ true → net_hash names parts rows b ≡ net_hash names parts rows a
-row_hash names parts rows a b same =
+pub row_same : (a b : NetRow) → is_row a b ≡ true → a ≡ b
+row_same a b same =
     let both = and_parts (a.instance == b.instance) (a.name == b.name) same in
     let one : a.instance ≡ b.instance = eqb-true a.instance b.instance both.0 in
     let two : a.name ≡ b.name = eqb-true a.name b.name both.1 in
-    sym (λ i. net_hash names parts rows record { instance = one i; name = two i })
+    λ i. record { instance = one i; name = two i }
+
+pub row_hash : (names : List (List ℕ)) (parts : List InstancePart) (rows : List InstanceRow) (a b : NetRow) → is_row a b ≡ true → net_hash names parts rows b ≡ net_hash names parts rows a
+row_hash names parts rows a b same = ap (net_hash names parts rows) (sym (row_same a b same))
 
 -- ## Row by row
 

@@ -13,6 +13,7 @@ pub mod Numbering
 pub mod Stack
 pub mod Once
 pub mod Numbered
+pub mod Tabled
 pub mod Added
 pub mod Marks
 pub mod Entered

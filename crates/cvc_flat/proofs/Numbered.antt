@@ -31,11 +31,11 @@ any_true p (x ∷ xs) e = by (p x) e (any_true p xs)
     by true g later = omega arith
     by false g later = let h = later g in omega (arith, h)
 
-place_behind : {A : Type 0} (p : A → Bool) (a : A) (xs : List A) → p a ≡ true → position_or_len p (xs ++ a ∷ []) ≡ position_or_len p xs
+pub place_behind : {A : Type 0} (p : A → Bool) (a : A) (xs : List A) → p a ≡ true → position_or_len p (xs ++ a ∷ []) ≡ position_or_len p xs
 place_behind p a [] is = ap (λ b. cond (not b) 1 0) is
 place_behind p a (x ∷ xs) is = ap (λ n. cond (not (p x)) (1 + n) 0) (place_behind p a xs is)
 
-at_most : {A : Type 0} (p : A → Bool) (xs : List A) → position_or_len p xs ≤ length xs
+pub at_most : {A : Type 0} (p : A → Bool) (xs : List A) → position_or_len p xs ≤ length xs
 at_most p [] = omega arith
 at_most p (x ∷ xs) = by (p x) (at_most p xs)
   where
@@ -88,7 +88,7 @@ ids_stay known more (net ∷ nets) h =
 
 -- ## Rows
 
-row_itself : (a : NetRow) → is_row a a ≡ true
+pub row_itself : (a : NetRow) → is_row a a ≡ true
 row_itself a = by (a.instance == a.instance) (a.name == a.name) (eq-eqb a.instance a.instance refl) (eq-eqb a.name a.name refl)
   where
     by : (b c : Bool) → b ≡ true → c ≡ true → (b && c) ≡ true

@@ -3,7 +3,7 @@ use Rattle.std.proofs.Common.{◌≡◌, ℕ, suc, take, ◌-◌, ◌+◌, ◌<�
 use Rattle.std.specs.Prelude.{All, Some, None, Err, reverse}
 use Rattle.std.specs.List.{AllZip}
 use Rattle.std.specs.Option.{option_map}
-use Rattle.std.proofs.lemmas.List.{append-nil, get_or_append_left, length-drop, length-map, length-reverse, reverse-append, take_all, take_more}
+use Rattle.std.proofs.lemmas.List.{append-nil, get_or_append_left, length-drop, length-map, length-reverse, map-append, reverse-append, take_all, take_more}
 use Rattle.std.proofs.lemmas.List.Elements.{All-append}
 use Rattle.cvc_base.specs.Answers.{Refuses}
 use Rattle.cvc_base.specs.declared.fault.Fault.{Fault}
@@ -44,7 +44,6 @@ use Rattle.cvc_flat.proofs.Entered.{never_top, path_new, shows_instance, sound_i
 use Rattle.cvc_flat.proofs.Marks.{IsWalked, begins, close_last, close_one, done_apart, fault_more, level_formed, mark_here, marks_long, marks_stay, marks_step, stepped, visit_device, visit_first, visit_instance, walked_more}
 use Rattle.cvc_flat.proofs.Stack.{fault_here}
 use Rattle.cvc_flat.proofs.Ways.{way_top}
-use Rattle.indexmap.proofs.ReorderLemmas.{map-reverse}
 
 pub record IsState (n : Netlist) (p : Plan) (rows : List InstanceRow) (made : Made) (levels : List Level) (mark : Mark) (above : List Mark) : Type 0 where
   pub walked : IsWalked n p rows made (reverse levels) mark (reverse above)
@@ -54,9 +53,15 @@ pub record IsState (n : Netlist) (p : Plan) (rows : List InstanceRow) (made : Ma
   pub groups : length made.groups.items ≤ length made.devices.items
   pub deep : length levels ≤ 64
 
+map_reverse : {A B : Type 0} (f : A → B) (xs : List A) → map f (reverse xs) ≡ reverse (map f xs)
+map_reverse f [] = refl
+map_reverse f (x ∷ xs) =
+    ap (map f) (reverse-append (x ∷ []) xs) ∙ map-append f (reverse xs) (x ∷ []) ∙ ap (λ l. l ++ f x ∷ []) (map_reverse f xs)
+    ∙ sym (reverse-append (f x ∷ []) (map f xs))
+
 -- the instance of the levels, either way
 pub instance_is : (levels : List Level) → map card_of (reverse levels) ≡ instance_of levels
-instance_is levels = map-reverse card_of levels
+instance_is levels = map_reverse card_of levels
 
 pub reverse_last : {A : Type 0} (xs : List A) (x : A) → reverse (xs ++ x ∷ []) ≡ x ∷ reverse xs
 reverse_last xs x = reverse-append xs (x ∷ [])

@@ -8,6 +8,7 @@ pub mod Tables
 pub mod Hashes
 pub mod Finder
 pub mod Resolving
+pub mod NetRows
 pub mod Making
 pub mod Joining
 pub mod Sharing

@@ -165,7 +165,7 @@ fn list_of(alloc: Global, netlist: &Netlist, plan: Plan, walked: Walked) -> Resu
         devices,
         groups,
     } = made;
-    let nets = nets.into_rows(alloc)?;
+    let nets = nets.into_rows();
     let finder = Finder::of(alloc, &cards.names, &cards.parts, &instances, &nets)?;
     Ok(Flat {
         top,
