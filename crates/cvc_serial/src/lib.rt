@@ -4,6 +4,7 @@
 mod engine;
 mod pending;
 mod settle;
+mod waiting;
 mod widen;
 
 pub use settle::settle_serial;
