@@ -1,12 +1,12 @@
 -- A trail is quiet where a part of it is.
-use Rattle.std.proofs.Common.{◌≡◌, ℕ, List, [], ◌∷◌, ◌++◌, true, ◌||◌, arith, refl, sym, subst}
+use Rattle.std.proofs.Common.{◌≡◌, List, [], ◌∷◌, ◌++◌, true, arith, refl, sym, subst}
 use Rattle.std.proofs.lemmas.Grind.{common_steps}
 use Rattle.cvc_law.specs.Network.{Network}
 use Rattle.cvc_field.specs.declared.turn.Turn.{Turn}
 use Rattle.cvc_field.specs.declared.turn.Turn.TheVariants.{Worked, Idle, Quiet}
 use Rattle.cvc_field.specs.declared.view.Entry.{Entry}
 use Rattle.cvc_field.specs.declared.view.Entry.TheVariants.{Counted}
-use Rattle.cvc_field.specs.Trail.{is_quiet, counted_zero}
+use Rattle.cvc_field.specs.Trail.{is_quiet}
 use Rattle.cvc_field.specs.Turns.{IsTurn}
 use Rattle.cvc_crew.specs.declared.turns.Next.TheVariants.{End}
 use Rattle.cvc_crew.specs.Workers.{next_of}

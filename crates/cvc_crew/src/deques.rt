@@ -1,14 +1,11 @@
 //! The deques of the workers, all made before the first turn.
 ghost use Rattle.std.specs.Prelude.{◌≡◌, ◌<◌, length, IfOk};
 
-use crate::places::share_start;
+use crate::shares::Share;
 use crate::tally::Tally;
 use crossbeam_deque::{Stealer, Worker};
 use cvc_base::{DevId, NoMemory};
 use std::alloc::Global;
-
-/// The least number of devices that a deque has room for at first.
-const LEAST_ROOM: u32 = 64;
 
 /// What a worker alone has: its deque of devices to try next, first in first out, and its count of turns.
 #[derive(Drop)]
@@ -25,13 +22,9 @@ pub(crate) struct Deques {
 }
 
 impl Member {
-    /// A worker whose deque has the devices from the first up to the end. One that the deque has no room for is dropped, since its mark says that it is to be tried.
-    fn new(alloc: Global, first: u32, end: u32) -> Result<Member, NoMemory> {
-        let room = end.saturating_sub(first).max(LEAST_ROOM);
-        let mut tasks = Worker::new_fifo(alloc, room as usize)?;
-        for d in first..end {
-            let _ = tasks.push(DevId(d));
-        }
+    /// A worker whose empty deque has room for its share of the devices.
+    fn new(alloc: Global, share: Share) -> Result<Member, NoMemory> {
+        let tasks = Worker::new_fifo(alloc, share.room() as usize)?;
         Ok(Member {
             tasks,
             tally: Tally::NONE,
@@ -39,16 +32,15 @@ impl Member {
     }
 }
 
-/// What each of this many workers has, with its share of the devices in its deque.
+/// What each of this many workers has.
 fn members_of(alloc: Global, devices: u32, workers: u32) -> Result<Vec<Member>, NoMemory>
     requires { 0 < workers }
     ensures { IfOk result (λ v. length v.items ≡ workers) }
 {
     let mut members = Vec::with_capacity(alloc, workers as usize)?;
     for worker in 0..workers {
-        let first = share_start(devices, workers, worker);
-        let end = share_start(devices, workers, worker + 1);
-        members.push(Member::new(alloc, first, end)?)?;
+        let share = Share::of(devices, workers, worker);
+        members.push(Member::new(alloc, share)?)?;
     }
     Ok(members)
 }
@@ -73,7 +65,8 @@ pub(crate) fn tally_of(members: &[Member]) -> Tally {
 }
 
 impl Deques {
-    /// A deque for each of this many workers, which begins with its share of the devices. It takes all its memory here, but a deque may try to grow later.
+    /// An empty deque for each of this many workers, with room for its share of the devices. It takes all its memory here, but a deque may try to
+    /// grow later.
     pub(crate) fn new(alloc: Global, devices: u32, workers: u32) -> Result<Deques, NoMemory>
         requires { 0 < workers }
         ensures members { IfOk result (λ d. length d.members.items ≡ workers) }

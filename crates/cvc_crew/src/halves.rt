@@ -51,11 +51,13 @@ fn work_both<R: Threads + Wait + Sync, G: Gate>(
     ensures back { IsDoneIn shared.now.field.now back.old back.new }
 {
     let mut one = ||
-        requires { IsSync R.row × IsSync G.row × IsHandIn shared.now.field.now (length low.now) front.now × (0 < length low.now) × (first + length low.now ≤ shared.now.workers) }
+        requires { IsSync R.row × IsSync G.row × IsHandIn shared.now.field.now (length low.now) front.now × (0 < length low.now)
+            × (first + length low.now ≤ shared.now.workers) }
         ensures { IsDoneIn shared.entry.now.field.now front.entry.now front.exit.now }
     { work_in(rt, shared, first, front, low) };
     let mut two = ||
-        requires { IsSync R.row × IsSync G.row × IsHandIn shared.now.field.now (length high.now) back.now × (0 < length high.now) × (second + length high.now ≤ shared.now.workers) }
+        requires { IsSync R.row × IsSync G.row × IsHandIn shared.now.field.now (length high.now) back.now × (0 < length high.now)
+            × (second + length high.now ≤ shared.now.workers) }
         ensures { IsDoneIn shared.entry.now.field.now back.entry.now back.exit.now }
     { work_in(rt, shared, second, back, high) };
     join_mut(rt, &mut one, &mut two);

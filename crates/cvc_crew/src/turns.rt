@@ -9,6 +9,7 @@ use crate::deques::Member;
 use crate::gate::Gate;
 use crate::places::{Source, Task, next_task, scan_place};
 use crate::shared::Shared;
+use crate::shares::Share;
 use crate::tally::Tally;
 use crossbeam_deque::Worker;
 use crossbeam_utils::Backoff;
@@ -129,7 +130,8 @@ fn push_all(tasks: &mut Worker<DevId>, tray: &Tray) {
     }
 }
 
-/// The turns of a worker, until one reads a count of 0. Each turn goes through the gate before, and puts what it newly queued into the worker's deque after.
+/// The turns of a worker, until one reads a count of 0. Its deque begins with its share of the devices. Each turn goes through the gate before, and
+/// puts what it newly queued into the worker's deque after.
 pub(crate) fn make_turns<R: Wait, G: Gate>(
     rt: &R,
     shared: &Shared<G>,
@@ -143,6 +145,7 @@ pub(crate) fn make_turns<R: Wait, G: Gate>(
 {
     let mut hand = hand;
     let mut tray = Tray::new();
+    Share::of(shared.devices, shared.workers, worker).put_into(&mut member.tasks);
     let mut turn: u64 = 0;
     let mut pauses = Pauses::new();
     for _ in rt.forever() {

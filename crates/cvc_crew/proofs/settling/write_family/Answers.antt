@@ -1,7 +1,6 @@
-use Rattle.std.proofs.Common.{◌≡◌, ℕ, ◌<◌, length, arith}
+use Rattle.std.proofs.Common.{arith}
 use Rattle.std.proofs.lemmas.List.{ext_get_or}
 use Rattle.cvc_law.specs.Family.{unknown}
-use Rattle.cvc_field.specs.Closings.{family_of}
 use Rattle.cvc_crew.proofs.settling.write_family.Goals as goal
 
 pub returns : goal.returns

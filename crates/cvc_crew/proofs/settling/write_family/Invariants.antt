@@ -1,4 +1,4 @@
-use Rattle.std.proofs.Common.{◌≡◌, ℕ, ◌<◌, length}
+use Rattle.std.proofs.Common.{◌≡◌, ℕ, ◌<◌}
 use Rattle.cvc_law.specs.Family.{interval_at}
 use Rattle.cvc_field.specs.Closings.{family_of}
 use Rattle.cvc_crew.proofs.settling.write_family.Given as goal

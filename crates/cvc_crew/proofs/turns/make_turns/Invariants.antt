@@ -1,4 +1,3 @@
-use Rattle.std.proofs.Common.{◌≡◌}
 use Rattle.cvc_crew.specs.Workers.{IsKept}
 use Rattle.cvc_crew.proofs.turns.make_turns.Given as goal
 
