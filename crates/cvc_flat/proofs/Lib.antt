@@ -25,3 +25,4 @@ pub mod States
 pub mod Hosting
 pub mod Seen
 pub mod Sharing
+pub mod Growing

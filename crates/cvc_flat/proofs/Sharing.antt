@@ -17,6 +17,7 @@ use Rattle.cvc_params.proofs.Loops.{params_none}
 use Rattle.cvc_plan.specs.declared.cards.Plan.{Plan}
 use Rattle.cvc_plan.specs.declared.plan.DevicePlan.{DevicePlan}
 use Rattle.cvc_plan.specs.Plans.{IsPlanOf}
+use Rattle.cvc_plan.proofs.Planned.{zip_set}
 use Rattle.cvc_flat.specs.declared.shared.CellGroups.{CellGroups}
 use Rattle.cvc_flat.specs.declared.rows.Group.{Group}
 use Rattle.cvc_flat.specs.declared.rows.InstanceRow.{InstanceRow}
@@ -89,13 +90,6 @@ none_shared names groups cells shared z =
     (λ c s e. subst (AreItemsShared names groups c.items) (sym e) (items_none names groups c.items)) z
 
 -- ## One card's
-
-zip_set : {A B : Type 0} (R : A → B → Type 0) (xs : List A) (ys : List B) (k : ℕ) (d : A) (y : B) → AllZip R xs ys → R (get_or xs k d) y → AllZip R xs (set ys k y)
-zip_set R [] [] k d y z r = tt
-zip_set R [] (b ∷ ys) k d y z r = absurd z
-zip_set R (a ∷ xs) [] k d y z r = absurd z
-zip_set R (a ∷ xs) (b ∷ ys) zero d y z r = (r, z.1)
-zip_set R (a ∷ xs) (b ∷ ys) (suc k) d y z r = (z.0, zip_set R xs ys k d y z.1 r)
 
 module _ (n : Netlist) (p : Plan) (rows : List InstanceRow) (made : Made) (levels : List Level) (mark : Mark) (above : List Mark) (s : IsState n p rows made levels mark above)
     (names : List (List ℕ)) (groups : List Group) (shared : List CellGroups) (are : AreShared names groups (all_cells n) shared) where

@@ -1,7 +1,6 @@
 -- The states of a walk: what is known at each visit, and what one more visit makes of it.
 use Rattle.std.proofs.Common.{◌≡◌, ℕ, suc, take, ◌-◌, ◌+◌, ◌<◌, ◌≤◌, List, [], ◌∷◌, ◌++◌, length, map, get_or, drop, refl, sym, ap, subst, ◌∙◌, length-append, arith}
 use Rattle.std.specs.Prelude.{All, Some, None, Err, reverse}
-use Rattle.std.specs.List.{AllZip}
 use Rattle.std.specs.Option.{option_map}
 use Rattle.std.proofs.lemmas.List.{append-nil, get_or_append_left, length-drop, length-map, length-reverse, map-append, reverse-append, take_all, take_more}
 use Rattle.std.proofs.lemmas.List.Elements.{All-append}
@@ -18,15 +17,12 @@ use Rattle.cvc_cdl.specs.declared.netlist.Netlist.{Netlist}
 use Rattle.cvc_cdl.specs.Building.{fault_at}
 use Rattle.cvc_cdl.specs.WellFormed.{IsFormedItem, IsFormedLevel, IsWellFormed}
 use Rattle.cvc_cdl.specs.Instances.{Instance, all_cells, cell_at, cell_for, no_cell}
-use Rattle.cvc_cdl.proofs.Zips.{zip_at, zip_length}
 use Rattle.cvc_params.specs.declared.level.Level.{Level}
 use Rattle.cvc_params.specs.Levels.{AreLevels, card_of, instance_of}
-use Rattle.cvc_plan.specs.declared.cards.CellPlan.{CellPlan}
-use Rattle.cvc_plan.specs.declared.cards.ItemPlan.{ItemPlan}
 use Rattle.cvc_plan.specs.declared.cards.Plan.{Plan}
 use Rattle.cvc_plan.specs.declared.rows.NetRow.{NetRow}
 use Rattle.cvc_plan.specs.Nets.{link_of as link_in, path_of as path_in}
-use Rattle.cvc_plan.specs.Planning.{IsCellPlan, IsInstPlan, IsItemPlan, IsPlan}
+use Rattle.cvc_plan.specs.Planning.{IsInstPlan, IsPlan}
 use Rattle.cvc_plan.specs.Parts.{link_at}
 use Rattle.cvc_plan.proofs.Lists.{all_front, all_one}
 use Rattle.cvc_plan.proofs.Planned.{element}
@@ -352,27 +348,19 @@ module _ (n : Netlist) (p : Plan) (rows : List InstanceRow) (made : Made) (mark 
   pub levels_long : (levels : List Level) (above : List Mark) → IsState n p rows made levels mark above → length above ≡ length levels
   levels_long levels above s = omega (arith, marks_long n p rows (reverse levels) mark (reverse above) s.marks, length-reverse levels, length-reverse above)
 
--- ## Plans
+-- ## The item that comes next
 
-module _ (n : Netlist) (p : Plan) (rows : List InstanceRow) (made : Made) (levels : List Level) (mark : Mark) (above : List Mark) (s : IsState n p rows made levels mark above) (plan : IsPlan n p) where
-  pub plan_inside : mark.plan < length p.cells.items
-  plan_inside =
-      omega (arith, zip_length (IsCellPlan n p.cards) (all_cells n) p.cells.items plan.cells, length-append n.cells (n.main ∷ []), (here n p rows made levels mark above s).known)
+-- no instance but the top has no cards on its path
+empty_path : (n : Netlist) (q : Instance) → [] ≡ path_in n q → q ≡ []
+empty_path n [] e = refl
+empty_path n (x ∷ q) e = absurd (let w : [] ≡ link_in n x ∷ path_in n q = e in cc)
 
-  pub cell_planned : (k : CellPlan) → k ≡ get_or p.cells.items mark.plan k → AllZip (IsItemPlan n p.cards mark.cell.now.ports) mark.cell.now.items k.items.items
-  cell_planned k e =
+module _ (n : Netlist) (p : Plan) (rows : List InstanceRow) (made : Made) (levels : List Level) (mark : Mark) (above : List Mark) (s : IsState n p rows made levels mark above) where
+  pub top_here : mark.instance ≡ 0 → mark.cell.now ≡ cell_at n []
+  top_here e =
       let m = here n p rows made levels mark above s in
-      let inside : mark.plan < length (all_cells n) = omega (arith, length-append n.cells (n.main ∷ []), m.known) in
-      subst (λ (c : Cell). IsCellPlan n p.cards c k) m.plan
-      (subst (λ (x : CellPlan). IsCellPlan n p.cards (get_or (all_cells n) mark.plan no_cell) x) (sym e)
-      (zip_at (IsCellPlan n p.cards) (all_cells n) p.cells.items mark.plan no_cell k plan.cells inside))
-
-  pub items_planned : (k : CellPlan) → k ≡ get_or p.cells.items mark.plan k → length k.items.items ≡ length mark.cell.now.items
-  items_planned k e = zip_length (IsItemPlan n p.cards mark.cell.now.ports) mark.cell.now.items k.items.items (cell_planned k e)
-
-  pub item_planned : (k : CellPlan) (item : Item) (i : ItemPlan) → k ≡ get_or p.cells.items mark.plan k → mark.next < length mark.cell.now.items → item ≡ get_or mark.cell.now.items mark.next item → i ≡ get_or k.items.items mark.next i → IsItemPlan n p.cards mark.cell.now.ports item i
-  item_planned k item i e inside a b =
-      subst (λ x. IsItemPlan n p.cards mark.cell.now.ports x i) (sym a) (subst (IsItemPlan n p.cards mark.cell.now.ports (get_or mark.cell.now.items mark.next item)) (sym b) (zip_at (IsItemPlan n p.cards mark.cell.now.ports) mark.cell.now.items k.items.items mark.next item i (cell_planned k e) inside))
+      let none : [] ≡ path_in n (map card_of (reverse levels)) = sym (ap (λ i. path_of p.cards.names p.cards.parts.items (way_at (ways_of rows) i)) e ∙ ap (path_of p.cards.names p.cards.parts.items) (way_top rows)) ∙ m.path in
+      m.cell ∙ ap (cell_at n) (empty_path n (map card_of (reverse levels)) none)
 
   pub item_formed : IsWellFormed n → (item : Item) → mark.next < length mark.cell.now.items → item ≡ get_or mark.cell.now.items mark.next item → IsFormedItem n.cells item
   item_formed well item inside a =

@@ -67,6 +67,9 @@ all_from P known (r ∷ rs) h k =
     let here : All P (way_in known r) = all_cons P r.card (way_at known r.parent) (all_head (λ (x : InstanceRow). P x.card) r rs k) (all_at P known r.parent h) in
     all_from P (known ++ way_in known r ∷ []) rs (All-append (λ (w : Way). All P w) known (way_in known r ∷ []) h (all_one (λ (w : Way). All P w) (way_in known r) here)) (all_tail (λ (x : InstanceRow). P x.card) r rs k)
 
-pub all_on_way : (P : ℕ → Type 0) (rows : List InstanceRow) (i : ℕ) → All (λ (r : InstanceRow). P r.card) rows → All P (way_at (ways_of rows) i)
+pub all_ways : (P : ℕ → Type 0) (rows : List InstanceRow) → All (λ (r : InstanceRow). P r.card) rows → All (λ (w : Way). All P w) (ways_of rows)
 unfolding ways_of
-all_on_way P rows i h = all_at P (ways_from ([] ∷ []) rows) i (all_from P ([] ∷ []) rows (all_one (λ (w : Way). All P w) [] (λ k d b. absurd (omega arith))) h)
+all_ways P rows h = all_from P ([] ∷ []) rows (all_one (λ (w : Way). All P w) [] (λ k d b. absurd (omega arith))) h
+
+pub all_on_way : (P : ℕ → Type 0) (rows : List InstanceRow) (i : ℕ) → All (λ (r : InstanceRow). P r.card) rows → All P (way_at (ways_of rows) i)
+all_on_way P rows i h = all_at P (ways_of rows) i (all_ways P rows h)

@@ -149,7 +149,10 @@ pub(crate) fn first_named(
     requires name_limit { length names.now < 2 ^ 32 }
     requires finder { IsFinder names.now parts.now instances.now nets.now finder.now }
     ensures inside { IfSome result (λ k. k < length nets.now) }
-    ensures place { (f : FlatList) → f.globals ≡ take globals names.now → f.instances ≡ map (path_of names.now parts.now) (drop 1 (ways_of instances.now)) → result ≡ option_and_then (number_among (map (net_at names.now parts.now (ways_of instances.now)) nets.now)) (net_named f [] (pieces text.now)) }
+    ensures place { (f : FlatList) → f.globals ≡ take globals names.now
+        → f.instances ≡ map (path_of names.now parts.now) (drop 1 (ways_of instances.now))
+        → result ≡ option_and_then (number_among (map (net_at names.now parts.now (ways_of instances.now)) nets.now))
+            (net_named f [] (pieces text.now)) }
 {
     let mut up = 0;
     let mut rest = text;

@@ -27,7 +27,8 @@ pub(crate) fn net_row(
     requires tree { IsTree instances.now }
     requires cards { All (λ r. r.card < length parts.now) instances.now }
     requires inside { instance ≤ length instances.now }
-    ensures net { (names : List (List ℕ)) → AreNames names globals parts.now → name < length names → IsNetOf names globals parts.now instances.now instance name result }
+    ensures net { (names : List (List ℕ)) → AreNames names globals parts.now → name < length names
+        → IsNetOf names globals parts.now instances.now instance name result }
     ensures inside { result.instance ≤ length instances.now }
 {
     let mut at = instance;

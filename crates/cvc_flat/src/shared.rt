@@ -55,7 +55,8 @@ pub(crate) fn group_of<'n>(
     ensures sight { IfOk result (λ group. IsSight sight.new) }
     ensures same { IfOk result (λ group. SeesTheSame sight.old sight.new) }
     ensures looped { IfOk result (λ group. is_none group ≡ has_loop sight.old.netlist.now (instance_of sight.old.levels.items) pairs.now) }
-    ensures group { IfOk result (λ group. IfSome group (TakesGroup sight.old.netlist.now (instance_of sight.old.levels.items) pairs.now model groups.old.items groups.new.items)) }
+    ensures group { IfOk result (λ group. IfSome group
+        (TakesGroup sight.old.netlist.now (instance_of sight.old.levels.items) pairs.now model groups.old.items groups.new.items)) }
     ensures shared { IfOk result (λ group. IfSome group (λ g. IfSome shared.new (IsGroupOf groups.new.items pairs.now model))) }
 {
     if let Some(group) = *shared {

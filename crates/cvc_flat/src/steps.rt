@@ -30,12 +30,11 @@ use cvc_params::{PairLists, Sight};
 use cvc_plan::{DevicePlan, NetRow, Pin, Plan, net_of_pin};
 use std::alloc::Global;
 
-// What is walked: a netlist, the cell that is its top, its plan, and its lists of pairs.
+// What is walked: a netlist, the cell that is its top, and its lists of pairs.
 #[derive(Clone, Copy)]
 pub(crate) struct Source<'n> {
     pub netlist: &'n Netlist,
     pub top: &'n Cell,
-    pub plan: &'n Plan,
     pub lists: &'n PairLists,
 }
 
@@ -92,7 +91,8 @@ pub(crate) fn opened(alloc: Global, plan: &Plan) -> Result<NetTable, Refusal>
     requires apart { AreApart plan.now.cards.names }
     requires opened { All (λ o. o.name < length plan.now.cards.names) plan.now.openings.items }
     ensures refused { Refuses (opening_fault limits [] (map (opening_of plan.now.cards.names) plan.now.openings.items)) result }
-    ensures nets { IfOk result (λ nets. known_nets plan.now.cards [] nets ≡ nets_once [] (map net_of_opening (map (opening_of plan.now.cards.names) plan.now.openings.items))) }
+    ensures nets { IfOk result (λ nets. known_nets plan.now.cards [] nets
+        ≡ nets_once [] (map net_of_opening (map (opening_of plan.now.cards.names) plan.now.openings.items))) }
     ensures within { IfOk result (λ nets. All (λ r. (r.instance ≤ 0) × (r.name < length plan.now.cards.names)) nets) }
     ensures room { IfOk result (λ nets. length nets ≤ 1000000) }
 {
@@ -117,7 +117,9 @@ fn pins_of(
     pins: &ArrayVec<Pin, 4>,
 ) -> Result<ArrayVec<NetId, 4>, NoMemory>
     requires { All (IsPinWithin (length ports.now)) pins.now.items }
-    ensures { IfOk result (λ ids. (p : Plan) (rows : List InstanceRow) → AreRows p rows nets.old → AreNetsWithin p rows (map (pin_row instance ports.now) pins.now.items) → NumbersPins p rows nets.old nets.new (known_nets p.cards rows (map (pin_row instance ports.now) pins.now.items)) ids.items) }
+    ensures { IfOk result (λ ids. (p : Plan) (rows : List InstanceRow) → AreRows p rows nets.old
+        → AreNetsWithin p rows (map (pin_row instance ports.now) pins.now.items)
+        → NumbersPins p rows nets.old nets.new (known_nets p.cards rows (map (pin_row instance ports.now) pins.now.items)) ids.items) }
 {
     let mut ids = ArrayVec::new();
     for pin in pins.as_slice() {
@@ -134,6 +136,7 @@ fn pins_of(
 pub(crate) fn place<'n>(
     alloc: Global,
     source: &Source<'n>,
+    plan: &Plan,
     sight: &mut Sight<'n>,
     instance: u32,
     ports: &[NetRow],
@@ -143,18 +146,24 @@ pub(crate) fn place<'n>(
     shared: &mut Option<u32>,
     made: &mut Made,
 ) -> Result<(), Refusal>
-    requires plan { IsPlan source.now.netlist.now source.now.plan.now }
+    requires plan { IsPlan source.now.netlist.now plan.now }
     requires groups { length made.old.groups.items ≤ length made.old.devices.items }
     requires sight { IsSight sight.old }
     requires same { sight.old.netlist.now ≡ source.now.netlist.now }
     requires ports { length ports.now ≡ length (cell_at source.now.netlist.now (instance_of sight.old.levels.items)).ports }
-    requires device { IsDevicePlan source.now.plan.now.cards card.now number device.now }
-    requires pins { ArePins source.now.plan.now.cards.names (global_names source.now.netlist.now) (cell_at source.now.netlist.now (instance_of sight.old.levels.items)).ports card.now.nets device.now.pins.items }
+    requires device { IsDevicePlan plan.now.cards card.now number device.now }
+    requires pins { ArePins plan.now.cards.names (global_names source.now.netlist.now)
+        (cell_at source.now.netlist.now (instance_of sight.old.levels.items)).ports card.now.nets device.now.pins.items }
     requires formed { length card.now.nets ≡ net_count card.now.letter }
-    requires shared { IfSome shared.old (IsShared source.now.plan.now.cards.names made.old.groups.items card.now) }
-    ensures refused { (rows : List InstanceRow) → IsHost source.now.netlist.now source.now.plan.now rows made.old (instance_of sight.old.levels.items) instance ports.now → Refuses (option_map (fault_at card.now.line) (device_cause_in limits source.now.netlist.now (length made.old.devices.items) (known_nets source.now.plan.now.cards rows made.old.nets) (instance_of sight.old.levels.items) card.now)) result }
-    ensures added { (rows : List InstanceRow) → IsHost source.now.netlist.now source.now.plan.now rows made.old (instance_of sight.old.levels.items) instance ports.now → OnOk result (AddsDevice source.now.netlist.now source.now.plan.now rows made.old made.new (instance_of sight.old.levels.items) card.now) }
-    ensures shared { OnOk result (IfSome shared.new (IsShared source.now.plan.now.cards.names made.new.groups.items card.now)) }
+    requires shared { IfSome shared.old (IsShared plan.now.cards.names made.old.groups.items card.now) }
+    ensures refused { (rows : List InstanceRow)
+        → IsHost source.now.netlist.now plan.now rows made.old (instance_of sight.old.levels.items) instance ports.now
+        → Refuses (option_map (fault_at card.now.line) (device_cause_in limits source.now.netlist.now (length made.old.devices.items)
+            (known_nets plan.now.cards rows made.old.nets) (instance_of sight.old.levels.items) card.now)) result }
+    ensures added { (rows : List InstanceRow)
+        → IsHost source.now.netlist.now plan.now rows made.old (instance_of sight.old.levels.items) instance ports.now
+        → OnOk result (AddsDevice source.now.netlist.now plan.now rows made.old made.new (instance_of sight.old.levels.items) card.now) }
+    ensures shared { OnOk result (IfSome shared.new (IsShared plan.now.cards.names made.new.groups.items card.now)) }
     ensures sight { OnOk result (IsSight sight.new) }
     ensures sees { OnOk result (SeesTheSame sight.old sight.new) }
 {

@@ -55,7 +55,8 @@ pub(crate) fn write_path<K: Sink>(
     requires inside { instance ≤ length instances.now }
     requires name { name < length names.now }
     ensures cause { HasCause (K.faults sink.old) (K.faults sink.new) result }
-    ensures written { WritesText (K.written sink.old) (K.written sink.new) result (printed (names_on names.now parts.now (way_at (ways_of instances.now) instance)) (text names.now name)) }
+    ensures written { WritesText (K.written sink.old) (K.written sink.new) result
+        (printed (names_on names.now parts.now (way_at (ways_of instances.now) instance)) (text names.now name)) }
 {
     let mut way = way_up(instances, instance);
     while let Some(card) = way.pop() {

@@ -159,7 +159,8 @@ impl<'n> Sight<'n> {
         requires sight { HasLists self.now }
         requires inside { depth ≤ length self.now.levels.items }
         requires lower { str_to_ascii_lowercase low.now ≡ low.now }
-        ensures spot { option_map (use_in self.now.levels.items) result ≡ given_in (Inside (way_to self.now.levels.items depth)) (cell_at self.now.netlist.now (way_to self.now.levels.items depth)).pairs low.now }
+        ensures spot { option_map (use_in self.now.levels.items) result
+            ≡ given_in (Inside (way_to self.now.levels.items depth)) (cell_at self.now.netlist.now (way_to self.now.levels.items depth)).pairs low.now }
         ensures inside { IfSome result (λ spot. IsOnWay self.now.levels.items spot.site) }
     {
         if depth == 0 {

@@ -28,6 +28,9 @@ all_cons P x xs p h = λ k d b. all_cons_at P x xs p h k d b
 pub all_one : {X : Type 0} (P : X → Type 0) (x : X) → P x → All P (x ∷ [])
 all_one P x p = all_cons P x [] p (λ k d b. absurd (omega arith))
 
+pub all_none : {X : Type 0} (P : X → Type 0) (xs : List X) → xs ≡ [] → All P xs
+all_none P xs e = subst (All P) (sym e) (λ k d b. absurd (omega arith))
+
 pub all_last : {X : Type 0} (P : X → Type 0) (xs ys : List X) (x : X) → xs ≡ ys ++ x ∷ [] → All P xs → P x
 all_last {X} P xs ys x e h =
     subst P (ap (λ (l : List X). get_or l (length ys) x) e ∙ get_or-append_seam ys x [] x) (h (length ys) x (omega (arith, ap length e, length-append ys (x ∷ []))))

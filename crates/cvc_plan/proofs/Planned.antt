@@ -1,8 +1,10 @@
 -- A plan as it grows: what is kept of a card stays as it is.
-use Rattle.std.proofs.Common.{◌≡◌, ℕ, zero, suc, ◌+◌, ◌<◌, ◌||◌, Bool, true, false, List, [], ◌∷◌, ◌++◌, length, map, get_or, take, refl, sym, ap, subst, ◌∙◌, append_assoc, length-append, arith}
+use Rattle.std.proofs.Common.{◌≡◌, ℕ, zero, suc, ◌+◌, ◌<◌, ◌≤◌, ◌^◌, ◌||◌, Bool, true, false, List, [], ◌∷◌, ◌++◌, length, map, get_or, set, take, refl, sym, ap, subst, ◌∙◌, append_assoc, length-append, arith}
 use Rattle.std.proofs.Common.{cond}
-use Rattle.std.specs.Prelude.{All, IfSome, IsTrue, Result, Ok, Err, IfOk, MatchOption, Option, Some, None, find, nat_lt, position, slice_get, if◌then◌else◌}
+use Rattle.std.specs.Prelude.{Vec, All, IfSome, IsSome, IsTrue, Result, Ok, Err, IfOk, MatchOption, Option, Some, None, find, nat_lt, position, slice_get, if◌then◌else◌}
 use Rattle.std.specs.List.{AllZip, list_any, position_or_len}
+use Rattle.std.specs.Option.{option_and_then, unwrap_or}
+use Rattle.std.specs.declared.alloc.Global.{Global}
 use Rattle.std.specs.Str.{bytes_eq}
 use Rattle.std.specs.Cmp.Lexicographic.{bytes_decides}
 use Rattle.std.proofs.Math.Seq.{get_or-append_seam}
@@ -23,28 +25,30 @@ use Rattle.cvc_cdl.specs.declared.netlist.Netlist.{Netlist}
 use Rattle.cvc_cdl.specs.Building.{is_among}
 use Rattle.cvc_cdl.specs.Ending.{cell_named}
 use Rattle.cvc_cdl.specs.Netlist.{name_of_cell}
-use Rattle.cvc_cdl.specs.Instances.{cell_for, no_cell}
-use Rattle.cvc_cdl.proofs.Zips.{zip_map}
+use Rattle.cvc_cdl.specs.WellFormed.{IsFormedLevel, IsWellFormed}
+use Rattle.cvc_cdl.specs.Instances.{all_cells, cell_for, no_cell}
+use Rattle.cvc_cdl.proofs.Zips.{zip_at, zip_length, zip_map}
 use Rattle.cvc_plan.specs.declared.cards.Cards.{Cards}
 use Rattle.cvc_plan.specs.declared.cards.CellPlan.{CellPlan}
 use Rattle.cvc_plan.specs.declared.cards.ItemPlan.{ItemPlan}
 use Rattle.cvc_plan.specs.declared.cards.ItemPlan.TheVariants as plans
 use Rattle.cvc_plan.specs.declared.cards.OpeningPlan.{OpeningPlan}
+use Rattle.cvc_plan.specs.declared.cards.Plan.{Plan}
 use Rattle.cvc_plan.specs.declared.pins.Pin.{Pin}
 use Rattle.cvc_plan.specs.declared.pins.PortPlan.{PortPlan}
 use Rattle.cvc_plan.specs.declared.plan.DevicePlan.{DevicePlan}
 use Rattle.cvc_plan.specs.declared.rows.DevicePart.{DevicePart}
 use Rattle.cvc_plan.specs.declared.rows.InstancePart.{InstancePart}
 use Rattle.cvc_plan.specs.Nets.{Link, Opening, global_names, link_of as link_in, opening_at}
-use Rattle.cvc_names.specs.Names.{place_of, with_name}
+use Rattle.cvc_names.specs.Names.{AreApart, place_of, with_name}
 use Rattle.cvc_plan.specs.Names.{Grows}
 use Rattle.cvc_plan.specs.Pins.{ArePins, ArePortPlans, IsPin, IsPortPlan, net_given}
-use Rattle.cvc_plan.specs.Planning.{AreCellPlans, AreSoundCards, CardsGrow, IsCellPlan, IsDevicePlan, IsInstPlan, IsItemPlan, opening_of}
+use Rattle.cvc_plan.specs.Planning.{AreCellPlans, AreSoundCards, CardsGrow, HasNoPlan, HasPlan, IsCellPlan, IsDevicePlan, IsInstPlan, IsItemPlan, IsKept, IsPlan, PlanGrows, kept_of, opening_of}
 use Rattle.cvc_plan.specs.Plans.{IsPlanOf}
 use Rattle.cvc_plan.specs.Parts.{IsPart, link_at, link_of, no_part, part_at}
 use Rattle.cvc_plan.proofs.Growing.{grows_connections, grows_length, grows_none, grows_pairs, grows_text, grows_twice, map_alike}
 use Rattle.cvc_plan.proofs.Lists.{all_one, none_first, or_first, or_second, place_map}
-use Rattle.cvc_plan.proofs.Pinned.{pin_stays, plan_stays as port_plan_stays}
+use Rattle.cvc_plan.proofs.Pinned.{front_stays, pin_stays, plan_stays as port_plan_stays}
 use Rattle.cvc_plan.proofs.Among.{place_among}
 use Rattle.cvc_plan.proofs.Parts.{link_is}
 
@@ -112,7 +116,7 @@ part_stays a b part g p = let n = grows_text a b part.name g p.0 in let c = grow
 pub sound_part_more : (a b : List (List ℕ)) (part : InstancePart) → Grows a b → IsPart a part → IsPart b part
 sound_part_more a b part g p = let more = grows_length a b g in (omega (arith, p.0, more), grows_connections a b part.connections.items g p.1)
 
-link_stays : (a b : Cards) (k : ℕ) → CardsGrow a b → AreSoundCards a → k < length a.parts.items → link_at b.names b.parts.items k ≡ link_at a.names a.parts.items k
+pub link_stays : (a b : Cards) (k : ℕ) → CardsGrow a b → AreSoundCards a → k < length a.parts.items → link_at b.names b.parts.items k ≡ link_at a.names a.parts.items k
 link_stays a b k g s h =
     let w = element a.parts.items k h in
     let part : InstancePart = w.0 in
@@ -148,9 +152,13 @@ item_stays n a b ports g s (items.Inst card) (plans.Inst number plan) p =
 pub items_stay : (n : Netlist) (a b : Cards) (ports : List (List ℕ)) (its : List Item) (ps : List ItemPlan) → CardsGrow a b → AreSoundCards a → AllZip (IsItemPlan n a ports) its ps → AllZip (IsItemPlan n b ports) its ps
 items_stay n a b ports its ps g s z = zip_map (IsItemPlan n a ports) (IsItemPlan n b ports) its ps (item_stays n a b ports g s) z
 
-pub cells_stay : (n : Netlist) (a b : Cards) (cells : List Cell) (ps : List CellPlan) → CardsGrow a b → AreSoundCards a → AreCellPlans n a cells ps → AreCellPlans n b cells ps
+pub cell_stays : (n : Netlist) (a b : Cards) (c : Cell) (plan : Option CellPlan) → CardsGrow a b → AreSoundCards a → IfSome plan (IsCellPlan n a c) → IfSome plan (IsCellPlan n b c)
+cell_stays n a b c None g s w = tt
+cell_stays n a b c (Some plan) g s w = items_stay n a b c.ports c.items plan.items.items g s w
+
+pub cells_stay : (n : Netlist) (a b : Cards) (cells : List Cell) (ps : List (Option CellPlan)) → CardsGrow a b → AreSoundCards a → AreCellPlans n a cells ps → AreCellPlans n b cells ps
 cells_stay n a b cells ps g s z =
-    zip_map (IsCellPlan n a) (IsCellPlan n b) cells ps (λ c p w. items_stay n a b c.ports c.items p.items.items g s w) z
+    zip_map (λ (c : Cell) (o : Option CellPlan). IfSome o (IsCellPlan n a c)) (λ (c : Cell) (o : Option CellPlan). IfSome o (IsCellPlan n b c)) cells ps (λ c o w. cell_stays n a b c o g s w) z
 
 -- ## One more card
 
@@ -258,3 +266,104 @@ openings_grow a b os g h = map_alike (opening_of b) (opening_of a) os (λ k d l 
 
 pub opened_grow : (a b : List (List ℕ)) (os : List OpeningPlan) → Grows a b → All (λ (x : OpeningPlan). x.name < length a) os → All (λ (x : OpeningPlan). x.name < length b) os
 opened_grow a b os g h = λ k d l. let w = h k d l in let m = grows_length a b g in omega (arith, w, m)
+
+pub none_kept : (n : Netlist) (k : Cards) (cells : List Cell) (ps : List (Option CellPlan)) → AllZip HasNoPlan cells ps → AreCellPlans n k cells ps
+none_kept n k cells ps z =
+    zip_map HasNoPlan (λ (c : Cell) (o : Option CellPlan). IfSome o (IsCellPlan n k c)) cells ps (λ c o e. subst (λ (x : Option CellPlan). IfSome x (IsCellPlan n k c)) (sym e) tt) z
+
+-- the same plan with more cards, and with these plans of cells
+pub plan_with : (n : Netlist) (p q : Plan) → IsPlan n p → CardsGrow p.cards q.cards → AreSoundCards q.cards → AreApart q.cards.names → length q.cards.names < 2 ^ 32 → AreCellPlans n q.cards (all_cells n) q.cells.items
+    → q.globals ≡ p.globals → q.top ≡ p.top → q.openings ≡ p.openings → q.places ≡ p.places → q.ports ≡ p.ports → IsPlan n q
+plan_with n p q is g sound apart count cells a b c d e = record {
+  apart = apart;
+  name_count = count;
+  below = omega (arith, a, is.below, grows_length p.cards.names q.cards.names g.names);
+  globals = ap (λ k. take k q.cards.names) a ∙ front_stays p.cards.names q.cards.names p.globals g.names is.below ∙ is.globals;
+  cards = sound;
+  cells = cells;
+  known = omega (arith, b, is.known);
+  top = ap (λ k. get_or (all_cells n) k no_cell) b ∙ is.top;
+  openings = ap (λ (os : Vec OpeningPlan Global). map (opening_of q.cards.names) os.items) c ∙ openings_grow p.cards.names q.cards.names p.openings.items g.names is.opened ∙ is.openings;
+  opened = subst (λ (os : Vec OpeningPlan Global). All (λ (o : OpeningPlan). o.name < length q.cards.names) os.items) (sym c) (opened_grow p.cards.names q.cards.names p.openings.items g.names is.opened);
+  places = d ∙ is.places;
+  ports = e ∙ is.ports;
+}
+
+-- ## Plans of cells
+
+pub zip_set : {A B : Type 0} (R : A → B → Type 0) (xs : List A) (ys : List B) (k : ℕ) (d : A) (y : B) → AllZip R xs ys → R (get_or xs k d) y → AllZip R xs (set ys k y)
+zip_set R [] [] k d y z r = tt
+zip_set R [] (b ∷ ys) k d y z r = absurd z
+zip_set R (a ∷ xs) [] k d y z r = absurd z
+zip_set R (a ∷ xs) (b ∷ ys) zero d y z r = (r, z.1)
+zip_set R (a ∷ xs) (b ∷ ys) (suc k) d y z r = (z.0, zip_set R xs ys k d y z.1 r)
+
+pub cells_count : (n : Netlist) (k : Cards) (ps : List (Option CellPlan)) → AreCellPlans n k (all_cells n) ps → length ps ≡ length n.cells + 1
+cells_count n k ps z = omega (arith, zip_length (λ (c : Cell) (o : Option CellPlan). IfSome o (IsCellPlan n k c)) (all_cells n) ps z, length-append n.cells (n.main ∷ []))
+
+-- one more cell is planned
+pub cell_planned : (n : Netlist) (k : Cards) (ps : List (Option CellPlan)) (number : ℕ) (plan : CellPlan) → AreCellPlans n k (all_cells n) ps → IsCellPlan n k (get_or (all_cells n) number no_cell) plan → AreCellPlans n k (all_cells n) (set ps number (Some plan))
+cell_planned n k ps number plan z is = zip_set (λ (c : Cell) (o : Option CellPlan). IfSome o (IsCellPlan n k c)) (all_cells n) ps number no_cell (Some plan) z is
+
+pub some_there : {A : Type 0} (xs : List (Option A)) (k : ℕ) (x : A) → k < length xs → IsSome (get_or (set xs k (Some x)) k None)
+some_there [] k x h = absurd (omega arith)
+some_there (y ∷ ys) zero x h = refl
+some_there (y ∷ ys) (suc k) x h = some_there ys k x (omega arith)
+
+-- each of all cells is well formed
+pub formed_at : (n : Netlist) (number : ℕ) → IsWellFormed n → number ≤ length n.cells → IsFormedLevel n.cells (get_or (all_cells n) number no_cell)
+formed_at n number w h =
+    All-append (IsFormedLevel n.cells) n.cells (n.main ∷ []) w.levels (all_one (IsFormedLevel n.cells) n.main w.main) number no_cell (omega (arith, h, length-append n.cells (n.main ∷ [])))
+
+-- what is kept of an item, by its own plan or by that of its cell
+pub own_kept : (n : Netlist) (p : Plan) (ports : List (List ℕ)) (item : Item) (own : ItemPlan) (cell place : ℕ) → IsItemPlan n p.cards ports item own → IsKept n p ports item (Some own) cell place
+own_kept n p ports item own cell place h = (own, refl, h)
+
+pub cell_kept : (n : Netlist) (p : Plan) (item : Item) (number place : ℕ) (cell : Cell) → IsPlan n p → number ≤ length n.cells → HasPlan p number → get_or (all_cells n) number no_cell ≡ cell → place < length cell.items → item ≡ get_or cell.items place item
+    → IsKept n p cell.ports item None number place
+cell_kept n p item number place cell is known has at inside there = by (get_or p.cells.items number None) refl has
+  where
+    all : IfSome (get_or p.cells.items number None) (IsCellPlan n p.cards cell)
+    all =
+        subst (λ (c : Cell). IfSome (get_or p.cells.items number None) (IsCellPlan n p.cards c)) at
+        (zip_at (λ (c : Cell) (o : Option CellPlan). IfSome o (IsCellPlan n p.cards c)) (all_cells n) p.cells.items number no_cell None is.cells (omega (arith, known, length-append n.cells (n.main ∷ []))))
+
+    by : (o : Option CellPlan) → get_or p.cells.items number None ≡ o → IsSome o → IsKept n p cell.ports item None number place
+    by None e h = absurd (false≢true h)
+    by (Some kept) e h =
+        let zipped : AllZip (IsItemPlan n p.cards cell.ports) cell.items kept.items.items = subst (λ (o : Option CellPlan). IfSome o (IsCellPlan n p.cards cell)) e all in
+        let long : place < length kept.items.items = omega (arith, inside, zip_length (IsItemPlan n p.cards cell.ports) cell.items kept.items.items zipped) in
+        let w = element kept.items.items place long in
+        (
+          w.0,
+          ap (option_and_then (λ (k : CellPlan). slice_get k.items.items place)) e ∙ slice_get-get_or kept.items.items place w.0 long ∙ ap Some (sym w.1),
+          subst (λ x. IsItemPlan n p.cards cell.ports x w.0) (sym there)
+              (subst (IsItemPlan n p.cards cell.ports (get_or cell.items place item)) (sym w.1) (zip_at (IsItemPlan n p.cards cell.ports) cell.items kept.items.items place item w.0 zipped inside)),
+        )
+
+pub kept_item : (n : Netlist) (p : Plan) (ports : List (List ℕ)) (item : Item) (own : Option ItemPlan) (cell place : ℕ) (plan : ItemPlan) → IsKept n p ports item own cell place → kept_of p.cells.items own cell place ≡ Some plan → IsItemPlan n p.cards ports item plan
+kept_item n p ports item own cell place plan k e = subst (IsItemPlan n p.cards ports item) (ap (λ (o : Option ItemPlan). unwrap_or o plan) (sym k.1 ∙ e)) k.2
+
+pub plan_same : (p : Plan) → PlanGrows p p
+plan_same p = record { cards = cards_none p.cards; globals = refl }
+
+get_inside : {A : Type 0} (xs : List A) (k : ℕ) → IsSome (slice_get xs k) → k < length xs
+get_inside [] k h = absurd (false≢true h)
+get_inside (x ∷ xs) zero h = omega arith
+get_inside (x ∷ xs) (suc k) h = let w = get_inside xs k h in omega (arith, w)
+
+-- what is kept of an item stands in the plan of its cell
+pub kept_cell : (plans : List (Option CellPlan)) (cell place : ℕ) → IsSome (kept_of plans None cell place) → cell < length plans
+kept_cell [] cell place h = absurd (false≢true h)
+kept_cell (x ∷ plans) zero place h = omega arith
+kept_cell (x ∷ plans) (suc cell) place h = let w = kept_cell plans cell place h in omega (arith, w)
+
+module _ (plans : List (Option CellPlan)) (cell place : ℕ) (kept : CellPlan) (at : get_or plans cell None ≡ Some kept) where
+  kept_is : kept_of plans None cell place ≡ slice_get kept.items.items place
+  kept_is = ap (option_and_then (λ (k : CellPlan). slice_get k.items.items place)) at
+
+  pub kept_place : IsSome (kept_of plans None cell place) → place < length kept.items.items
+  kept_place h = get_inside kept.items.items place (subst (λ (o : Option ItemPlan). IsSome o) kept_is h)
+
+  pub kept_there : (plan : ItemPlan) → IsSome (kept_of plans None cell place) → plan ≡ get_or kept.items.items place plan → kept_of plans None cell place ≡ Some plan
+  kept_there plan h e = kept_is ∙ slice_get-get_or kept.items.items place plan (kept_place h) ∙ ap Some (sym e)

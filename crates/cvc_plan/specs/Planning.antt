@@ -1,6 +1,8 @@
--- The plan of a walk: of each card of a netlist what is kept of it, with its names by their numbers, and for each cell its items in order.
-use Rattle.std.specs.Prelude.{◌≡◌, ℕ, ◌^◌, ◌<◌, ◌≤◌, List, [], ◌++◌, All, length, map, take, slice_index_or}
+-- The plan of a walk: of each card that the walk has come to what is kept of it, with its names by their numbers. The top is walked once, so a plan of
+-- its items serves but one visit; each other cell that is used has the plans of its items, in order, for all its instances.
+use Rattle.std.specs.Prelude.{◌≡◌, ℕ, ◌^◌, ◌<◌, ◌≤◌, List, [], ◌++◌, All, IfSome, IsSome, Option, Some, None, length, map, take, slice_get, slice_index_or}
 use Rattle.std.specs.List.{AllZip}
+use Rattle.std.specs.Option.{option_and_then}
 use Rattle.cvc_card.specs.declared.card.DeviceCard.{DeviceCard}
 use Rattle.cvc_card.specs.declared.card.InstCard.{InstCard}
 use Rattle.cvc_cdl.specs.declared.netlist.Cell.{Cell}
@@ -9,6 +11,7 @@ use Rattle.cvc_cdl.specs.declared.netlist.Item.{Item}
 use Rattle.cvc_cdl.specs.declared.netlist.Item.TheVariants as items
 use Rattle.cvc_cdl.specs.declared.netlist.Netlist.{Netlist}
 use Rattle.cvc_cdl.specs.Instances.{all_cells, cell_at, cell_for, no_cell}
+use Rattle.cvc_cdl.specs.Netlist.{name_of_cell}
 use Rattle.cvc_plan.specs.declared.cards.CellPlan.{CellPlan}
 use Rattle.cvc_plan.specs.declared.cards.Cards.{Cards}
 use Rattle.cvc_plan.specs.declared.cards.ItemPlan.{ItemPlan}
@@ -70,8 +73,18 @@ IsItemPlan n k ports (items.Inst card) (plans.Inst number plan) = IsInstPlan n k
 abbrev pub IsCellPlan : Netlist → Cards → Cell → CellPlan → Type 0
 IsCellPlan n k c plan = AllZip (IsItemPlan n k c.ports) c.items plan.items.items
 
-abbrev pub AreCellPlans : Netlist → Cards → List Cell → List CellPlan → Type 0
-AreCellPlans n k cells plans = AllZip (IsCellPlan n k) cells plans
+-- the plan of each cell that has one
+abbrev pub AreCellPlans : Netlist → Cards → List Cell → List (Option CellPlan) → Type 0
+AreCellPlans n k cells plans = AllZip (λ (c : Cell) (plan : Option CellPlan). IfSome plan (IsCellPlan n k c)) cells plans
+
+-- no item of the cell is kept
+abbrev pub HasNoPlan : Cell → Option CellPlan → Type 0
+HasNoPlan c plan = plan ≡ None
+
+-- what is kept of the item at this place of a cell: its own plan, or the one in the plan of the cell
+abbrev pub kept_of : List (Option CellPlan) → Option ItemPlan → ℕ → ℕ → Option ItemPlan
+kept_of plans (Some own) cell place = Some own
+kept_of plans None cell place = option_and_then (λ (kept : CellPlan). slice_get kept.items.items place) (slice_index_or plans cell None)
 
 -- ## Openings
 
@@ -95,3 +108,18 @@ pub record IsPlan (n : Netlist) (p : Plan) : Type 0 where
   pub top : slice_index_or (all_cells n) p.top no_cell ≡ cell_at n []
   pub openings : map (opening_of p.cards.names) p.openings.items ≡ openings_at n.globals (cell_at n [])
   pub opened : All (λ (o : OpeningPlan). o.name < length p.cards.names) p.openings.items
+  pub places : p.places ≡ map name_of_cell n.cells
+  pub ports : p.ports ≡ (cell_at n []).ports
+
+-- the items of the cell of this number are kept
+abbrev pub HasPlan : Plan → ℕ → Type 0
+HasPlan p number = IsSome (slice_index_or p.cells.items number None)
+
+-- there is a plan of this item, its own or in the plan of its cell
+abbrev pub IsKept : Netlist → Plan → List (List ℕ) → Item → Option ItemPlan → ℕ → ℕ → Type 0
+IsKept n p ports item own cell place = (plan : ItemPlan) × (kept_of p.cells.items own cell place ≡ Some plan) × IsItemPlan n p.cards ports item plan
+
+-- the same plan with more cards
+pub record PlanGrows (old new : Plan) : Type 0 where
+  pub cards : CardsGrow old.cards new.cards
+  pub globals : new.globals ≡ old.globals

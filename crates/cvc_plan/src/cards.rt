@@ -1,4 +1,4 @@
-//! The plan of a walk: what is kept of the cards of a netlist, of each once.
+//! The plan of a walk: what is kept of the cards of a netlist, of each once, as the walk comes to them.
 ghost use Rattle.std.specs.Prelude.{◌≡◌, ◌<◌, ◌≤◌, [], false, All, IfOk, IfSome, MatchOption, None, length, map, slice_index_or, take};
 ghost use Rattle.cvc_card.specs.Card.{has_twice, net_count};
 ghost use Rattle.cvc_card.specs.Formed.{ConnectsOnce};
@@ -10,9 +10,10 @@ ghost use Rattle.cvc_cdl.specs.WellFormed.{IsFormedItem, IsFormedLevel, IsWellFo
 ghost use Rattle.cvc_cdl.specs.Instances.{all_cells, cell_at, cell_for, no_cell};
 ghost use Rattle.cvc_plan.specs.Names.{Grows};
 ghost use Rattle.cvc_plan.specs.Nets.{global_names as names_of_globals};
-ghost use Rattle.cvc_plan.specs.Planning.{AreCellPlans, AreSoundCards, CardsGrow, IsCellPlan, IsItemPlan, IsPlan, opening_of, openings_at};
+ghost use Rattle.cvc_plan.specs.Planning.{AreSoundCards, CardsGrow, HasNoPlan, IsCellPlan, IsItemPlan, IsPlan, opening_of, openings_at};
+ghost use Rattle.std.specs.List.{AllZip};
 
-use crate::names::{narrow, number};
+use crate::names::{check_count, narrow, number};
 use crate::pins::{PortPlan, port_names, port_plans};
 use crate::plan::{DevicePlan, device_of, part_of};
 use crate::rows::{DevicePart, InstancePart};
@@ -57,14 +58,17 @@ pub struct OpeningPlan {
     pub line: u32,
 }
 
-/// What is kept of a netlist. Its main level is the cell behind all others; `top` is the number of the top among them.
+/// What is kept of a netlist so far: its cards, and for each cell what is kept of its items, once they are. The main level is the cell behind all
+/// others; `top` is the number of the top among them. Cells, and the ports of the top, are found by their names.
 #[derive(Drop)]
 pub struct Plan {
     pub cards: Cards,
     pub globals: usize,
-    pub cells: Vec<CellPlan>,
+    pub cells: Vec<Option<CellPlan>>,
     pub top: u32,
     pub openings: Vec<OpeningPlan>,
+    pub places: Names,
+    pub ports: Names,
 }
 
 // The names of cells, by their places.
@@ -112,7 +116,8 @@ fn device_plan(
     requires sound { AreSoundCards cards.old }
     ensures grows { IfOk result (λ plan. CardsGrow cards.old cards.new) }
     ensures sound { IfOk result (λ plan. AreSoundCards cards.new) }
-    ensures plan { IfOk result (λ plan. (n : Netlist) → take globals cards.old.names ≡ names_of_globals n → IsItemPlan n cards.new ports.now (items.Device card.now) plan) }
+    ensures plan { IfOk result (λ plan. (n : Netlist) → take globals cards.old.names ≡ names_of_globals n
+        → IsItemPlan n cards.new ports.now (items.Device card.now) plan) }
 {
     let plan = device_of(&mut cards.names, globals, ports, card)?;
     let number = narrow(cards.devices.len())?;
@@ -137,7 +142,9 @@ fn inst_plan(
     requires sound { AreSoundCards cards.old }
     ensures grows { IfOk result (λ plan. CardsGrow cards.old cards.new) }
     ensures sound { IfOk result (λ plan. AreSoundCards cards.new) }
-    ensures plan { IfOk result (λ plan. (n : Netlist) → take globals cards.old.names ≡ names_of_globals n → place < length n.cells → slice_index_or n.cells place no_cell ≡ cell.now → cell_for n card.now.cell ≡ cell.now → IsItemPlan n cards.new ports.now (items.Inst card.now) plan) }
+    ensures plan { IfOk result (λ plan. (n : Netlist) → take globals cards.old.names ≡ names_of_globals n → place < length n.cells
+        → slice_index_or n.cells place no_cell ≡ cell.now → cell_for n card.now.cell ≡ cell.now
+        → IsItemPlan n cards.new ports.now (items.Inst card.now) plan) }
 {
     let used = cell.ports.as_slice();
     let part = part_of(alloc, &mut cards.names, used, card)?;
@@ -149,7 +156,7 @@ fn inst_plan(
 }
 
 // What is kept of an item in a cell of these ports.
-fn item_plan(
+pub(crate) fn item_plan(
     alloc: Global,
     netlist: &Netlist,
     names: &Names,
@@ -181,7 +188,7 @@ fn item_plan(
 }
 
 // What is kept of a cell's items.
-fn cell_plan(
+pub(crate) fn cell_plan(
     alloc: Global,
     netlist: &Netlist,
     names: &Names,
@@ -207,32 +214,6 @@ fn cell_plan(
     Ok(CellPlan { items: plans })
 }
 
-// What is kept of all cells, the main level last.
-fn cell_plans(
-    alloc: Global,
-    netlist: &Netlist,
-    names: &Names,
-    cards: &mut Cards,
-    globals: usize,
-) -> Result<Vec<CellPlan>, NoMemory>
-    requires formed { IsWellFormed netlist.now }
-    requires names { names.now ≡ map name_of_cell netlist.now.cells }
-    requires below { globals ≤ length cards.old.names }
-    requires globals { take globals cards.old.names ≡ names_of_globals netlist.now }
-    requires sound { AreSoundCards cards.old }
-    ensures grows { IfOk result (λ plans. CardsGrow cards.old cards.new) }
-    ensures sound { IfOk result (λ plans. AreSoundCards cards.new) }
-    ensures plans { IfOk result (λ plans. AreCellPlans netlist.now cards.new (all_cells netlist.now) plans.items) }
-{
-    let mut plans = Vec::new(alloc);
-    for cell in netlist.cells.as_slice() {
-        plans.push(cell_plan(alloc, netlist, names, cards, globals, cell)?)?;
-    }
-    let main = cell_plan(alloc, netlist, names, cards, globals, &netlist.main)?;
-    plans.push(main)?;
-    Ok(plans)
-}
-
 // The number of the top among all cells.
 fn top_number(netlist: &Netlist, names: &Names) -> Result<u32, NoMemory>
     requires formed { IsWellFormed netlist.now }
@@ -250,13 +231,12 @@ fn top_number(netlist: &Netlist, names: &Names) -> Result<u32, NoMemory>
 }
 
 /// One of all cells.
-pub fn cell_of(netlist: &Netlist, number: u32) -> &Cell
+pub fn cell_of(netlist: &Netlist, number: usize) -> &Cell
     requires { number ≤ length netlist.now.cells }
     ensures { result.now ≡ slice_index_or (all_cells netlist.now) number no_cell }
 {
-    let place = number as usize;
-    if place < netlist.cells.len() {
-        netlist.cells.get(place)
+    if number < netlist.cells.len() {
+        netlist.cells.get(number)
     } else {
         &netlist.main
     }
@@ -291,35 +271,44 @@ fn openings_of(
     Ok(openings)
 }
 
-/// The plan of a netlist, in time linear in its cards.
-pub fn plan_of(alloc: Global, netlist: &Netlist) -> Result<Plan, NoMemory>
+// No cell has a plan, the main level last.
+fn no_plans(alloc: Global, netlist: &Netlist) -> Result<Vec<Option<CellPlan>>, NoMemory>
+    ensures { IfOk result (λ plans. AllZip HasNoPlan (all_cells netlist.now) plans.items) }
+{
+    let mut plans = Vec::new(alloc);
+    for _cell in netlist.cells.as_slice() {
+        plans.push(None)?;
+    }
+    plans.push(None)?;
+    Ok(plans)
+}
+
+/// The plan of a netlist of whose items none is kept yet.
+pub fn open_plan(alloc: Global, netlist: &Netlist) -> Result<Plan, NoMemory>
     requires { IsWellFormed netlist.now }
     ensures { IfOk result (IsPlan netlist.now) }
 {
-    let cells = cell_names(alloc, netlist.cells.as_slice())?;
-    let top = top_number(netlist, &cells)?;
+    let places = cell_names(alloc, netlist.cells.as_slice())?;
+    let top = top_number(netlist, &places)?;
+    let first = cell_of(netlist, top as usize);
+    let ports = port_names(alloc, first.ports.as_slice())?;
     let mut names = global_names(alloc, netlist.globals.as_slice())?;
     let globals = names.len();
-    let openings = openings_of(
-        alloc,
-        &mut names,
-        netlist.globals.as_slice(),
-        cell_of(netlist, top),
-    )?;
-    let mut cards = Cards {
+    let openings = openings_of(alloc, &mut names, netlist.globals.as_slice(), first)?;
+    check_count(&names)?;
+    let cells = no_plans(alloc, netlist)?;
+    let cards = Cards {
         names,
         parts: Vec::new(alloc),
         devices: Vec::new(alloc),
     };
-    let plans = cell_plans(alloc, netlist, &cells, &mut cards, globals)?;
-    if cards.names.len() > u32::MAX as usize {
-        return Err(NoMemory);
-    }
     Ok(Plan {
         cards,
         globals,
-        cells: plans,
+        cells,
         top,
         openings,
+        places,
+        ports,
     })
 }

@@ -1,5 +1,5 @@
 //! Names by numbers.
-ghost use Rattle.std.specs.Prelude.{◌≡◌, ◌<◌, length, IfOk};
+ghost use Rattle.std.specs.Prelude.{◌≡◌, ◌<◌, ◌^◌, length, IfOk, OnOk};
 ghost use Rattle.cvc_names.specs.Names.{AreApart};
 ghost use Rattle.cvc_plan.specs.Names.{Grows};
 ghost use Rattle.cvc_plan.specs.Parts.{text};
@@ -17,6 +17,17 @@ pub(crate) fn narrow(count: usize) -> Result<u32, NoMemory>
     }
 }
 
+// There are no more names than numbers.
+pub(crate) fn check_count(names: &Names) -> Result<(), NoMemory>
+    ensures count { OnOk result (length names.now < 2 ^ 32) }
+    ensures apart { AreApart names.now }
+{
+    if names.len() > u32::MAX as usize {
+        return Err(NoMemory);
+    }
+    Ok(())
+}
+
 // The number of a name.
 pub(crate) fn number(names: &mut Names, name: &[u8]) -> Result<u32, NoMemory>
     ensures grows { IfOk result (λ k. Grows names.old names.new) }
@@ -25,8 +36,6 @@ pub(crate) fn number(names: &mut Names, name: &[u8]) -> Result<u32, NoMemory>
     ensures apart { IfOk result (λ k. AreApart names.new) }
 {
     let place = names.number(name)?;
-    if names.len() > u32::MAX as usize {
-        return Err(NoMemory);
-    }
+    check_count(names)?;
     Ok(place as u32)
 }

@@ -190,7 +190,8 @@ pub(crate) fn port_plans(
     requires fits { ports_cause used.now connections.now ≡ None }
     requires given { ConnectsOnce connections.now }
     ensures grows { IfOk result (λ plans. Grows names.old names.new) }
-    ensures plans { IfOk result (λ plans. ArePortPlans names.new (take globals names.old) ports.now (connections_of used.now connections.now) used.now plans.items) }
+    ensures plans { IfOk result (λ plans.
+        ArePortPlans names.new (take globals names.old) ports.now (connections_of used.now connections.now) used.now plans.items) }
 {
     match connections {
         Ports::ByOrder(nets) => plans_by_order(alloc, names, globals, ports, used, nets.as_slice()),

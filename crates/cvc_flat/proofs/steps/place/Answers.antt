@@ -28,12 +28,12 @@ host_rows n p rows made within i ports h = record { apart = h.sound.names; ways 
 
 pub pins_of-requires : goal.pins_of-requires
 pins_of-requires c =
-    pins_within c.args.source.now.plan.now.cards.names (global_names c.args.source.now.netlist.now) _ c.args.card.now.nets (length c.args.ports.now) c.args.device.now.pins.items c.requires.ports c.requires.pins
+    pins_within c.args.plan.now.cards.names (global_names c.args.source.now.netlist.now) _ c.args.card.now.nets (length c.args.ports.now) c.args.device.now.pins.items c.requires.ports c.requires.pins
 
 pub returns-then-len-gt-NETS-clause-refused : goal.returns-then-len-gt-NETS-clause-refused
 returns-then-len-gt-NETS-clause-refused c = λ rows host.
     let n = c.args.source.now.netlist.now in
-    let p = c.args.source.now.plan.now in
+    let p = c.args.plan.now in
     let card = c.args.card.now in
     let within = instance_of c.args.sight.now.levels.items in
     let known : List Net = known_nets p.cards rows c.args.made.now.nets in
@@ -49,7 +49,7 @@ returns-then-len-gt-NETS-clause-refused c = λ rows host.
 pub returns-in_default-clause-refused : goal.returns-in_default-clause-refused
 returns-in_default-clause-refused c = λ rows host.
     let n = c.args.source.now.netlist.now in
-    let p = c.args.source.now.plan.now in
+    let p = c.args.plan.now in
     let card = c.args.card.now in
     let within = instance_of c.args.sight.now.levels.items in
     let known : List Net = known_nets p.cards rows c.args.made.now.nets in
@@ -66,7 +66,7 @@ returns-in_default-clause-refused c = λ rows host.
 pub returns-clause-refused : goal.returns-clause-refused
 returns-clause-refused c = λ rows host.
     let n = c.args.source.now.netlist.now in
-    let p = c.args.source.now.plan.now in
+    let p = c.args.plan.now in
     let card = c.args.card.now in
     let within = instance_of c.args.sight.now.levels.items in
     let known : List Net = known_nets p.cards rows c.args.made.now.nets in
@@ -82,7 +82,7 @@ returns-clause-refused c = λ rows host.
 pub returns-clause-added : goal.returns-clause-added
 returns-clause-added c = λ rows host.
     let n = c.args.source.now.netlist.now in
-    let p = c.args.source.now.plan.now in
+    let p = c.args.plan.now in
     let card = c.args.card.now in
     let device = c.args.device.now in
     let within = instance_of c.args.sight.now.levels.items in
@@ -97,9 +97,9 @@ returns-clause-added c = λ rows host.
 
 pub returns-clause-shared : goal.returns-clause-shared
 returns-clause-shared c =
-    by_card c.args.source.now.plan.now.cards.names c.group_of.new.groups.items c.args.card.now c.args.device.now c.group_of.new.shared c.requires.device.kept
+    by_card c.args.plan.now.cards.names c.group_of.new.groups.items c.args.card.now c.args.device.now c.group_of.new.shared c.requires.device.kept
     (subst (λ (o : Option ℕ). IfSome o (λ g. IfSome c.group_of.new.shared (IsGroupOf c.group_of.new.groups.items c.args.card.now.pairs c.args.device.now.model))) c.in-Some.is c.in_ok-found.ensures.shared)
 
 pub group_of-requires-clause-shared : goal.group_of-requires-clause-shared
 group_of-requires-clause-shared c =
-    by_number c.args.source.now.plan.now.cards.names c.args.made.now.groups.items c.args.card.now c.args.device.now c.args.shared.now c.requires.plan.apart c.requires.device.kept c.requires.shared
+    by_number c.args.plan.now.cards.names c.args.made.now.groups.items c.args.card.now c.args.device.now c.args.shared.now c.requires.plan.apart c.requires.device.kept c.requires.shared

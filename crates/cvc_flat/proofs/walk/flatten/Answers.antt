@@ -33,11 +33,10 @@ returns-in_err-walked-clause-fault c =
 pub returns-clause-flat : goal.returns-clause-flat
 returns-clause-flat c =
     let n = c.args.netlist.now in
-    let plan = c.in_ok-plan.plan in
     let walked = c.in_ok-walked.walked in
     let none : opening_fault limits [] (openings n) ≡ None = sym (ap (opening_fault limits []) c.in_ok-plan.ensures.openings) ∙ c.in_ok-nets.ensures.refused in
     no_fault n none c.in_ok-walked.ensures.refused
-    ∙ ap Ok (sym (shown_list n plan walked.instances.items walked.made (visits_of limits n) c.in_ok-plan.ensures.globals c.in_ok-walked.ensures.shows) ∙ ap (λ (h : Held). h.list) (sym c.in_ok-list_of.ensures))
+    ∙ ap Ok (sym (shown_list n walked.plan walked.instances.items walked.made (visits_of limits n) c.in_ok-walked.ensures.plan.globals c.in_ok-walked.ensures.shows) ∙ ap (λ (h : Held). h.list) (sym c.in_ok-list_of.ensures))
 
 pub walk-requires-clause-sight : goal.walk-requires-clause-sight
 walk-requires-clause-sight c = c.in_ok-lists.ensures.more.sight

@@ -1,6 +1,7 @@
 use Rattle.std.proofs.Common.{◌+◌, ◌*◌, ◌-◌, length}
 use Rattle.std.specs.Prelude.{reverse}
 use Rattle.cvc_cdl.specs.Instances.{all_cells}
+use Rattle.cvc_plan.specs.Planning.{IsPlan}
 use Rattle.cvc_flat.specs.Joining.{ArePorts}
 use Rattle.cvc_flat.specs.Sharing.{AreShared}
 use Rattle.cvc_flat.proofs.Seen.{Sees}
@@ -9,10 +10,11 @@ use Rattle.cvc_flat.proofs.walk.walk.Given as goal
 
 abbrev pub invariant-visits : goal.invariant-visits
 invariant-visits l = record {
-  state : IsState l.source.netlist.now l.source.plan.now l.instances.items l.made l.sight.levels.items l.mark l.above.items;
-  ports : ArePorts l.source.netlist.now l.source.plan.now l.instances.items (reverse l.sight.levels.items) l.ports.items l.mark (reverse l.above.items);
+  plan : IsPlan l.source.netlist.now l.plan;
+  state : IsState l.source.netlist.now l.plan l.instances.items l.made l.sight.levels.items l.mark l.above.items;
+  ports : ArePorts l.source.netlist.now l.plan l.instances.items (reverse l.sight.levels.items) l.ports.items l.mark (reverse l.above.items);
   sees : Sees l.source.netlist.now l.source.lists.now.cells.items l.sight;
-  shared : AreShared l.source.plan.now.cards.names l.made.groups.items (all_cells l.source.netlist.now) l.shared.items;
+  shared : AreShared l.plan.cards.names l.made.groups.items (all_cells l.source.netlist.now) l.shared.items;
 }
 
 abbrev pub decreases-visits : goal.decreases-visits
