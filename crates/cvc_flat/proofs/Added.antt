@@ -57,8 +57,8 @@ module _ (n : Netlist) (p : Plan) (rows : List InstanceRow) (old new : Made) (wi
   abbrev ways : List Way
   ways = ways_of rows
 
-  of_card : part_at p.cards.devices.items row.card ≡ plan.part
-  of_card = ap (part_at p.cards.devices.items) at ∙ d.part
+  of_card : part_at p.cards.devices.items row.card ≡ part_at p.cards.devices.items number
+  of_card = ap (part_at p.cards.devices.items) at
 
   shown : device_at (tables_of n p rows new) ways row ≡ flat_device n (known_nets p.cards rows new.nets) record { within = within; card = card }
   shown =

@@ -15,7 +15,7 @@ use Rattle.cvc_params.specs.declared.level.Level.{Level}
 use Rattle.cvc_params.specs.Places.{has_loop}
 use Rattle.cvc_params.proofs.Loops.{params_none}
 use Rattle.cvc_plan.specs.declared.cards.Plan.{Plan}
-use Rattle.cvc_plan.specs.declared.plan.DevicePlan.{DevicePlan}
+use Rattle.cvc_plan.specs.declared.rows.DevicePart.{DevicePart}
 use Rattle.cvc_plan.specs.Plans.{IsPlanOf}
 use Rattle.cvc_plan.proofs.Planned.{zip_set}
 use Rattle.cvc_flat.specs.declared.shared.CellGroups.{CellGroups}
@@ -46,15 +46,15 @@ takes_known n p groups pairs model g h = record {
 
 -- ## By numbers, and by the card
 
-pub by_number : (names : List (List ℕ)) (groups : List Group) (card : DeviceCard) (plan : DevicePlan) (shared : Option ℕ) → AreApart names → IsPlanOf names card plan
-    → IfSome shared (IsShared names groups card) → IfSome shared (IsGroupOf groups card.pairs plan.model)
-by_number names groups card plan None apart kept h = tt
-by_number names groups card plan (Some g) apart kept h = subst (λ m. IsGroupOf groups card.pairs m g) (apart h.model plan.model h.known kept.known (h.named ∙ sym kept.model)) h.group
+pub by_number : (names : List (List ℕ)) (groups : List Group) (card : DeviceCard) (part : DevicePart) (model : ℕ) (shared : Option ℕ) → AreApart names → IsPlanOf names card part model
+    → IfSome shared (IsShared names groups card) → IfSome shared (IsGroupOf groups card.pairs model)
+by_number names groups card part model None apart kept h = tt
+by_number names groups card part model (Some g) apart kept h = subst (λ m. IsGroupOf groups card.pairs m g) (apart h.model model h.known kept.known (h.named ∙ sym kept.model)) h.group
 
-pub by_card : (names : List (List ℕ)) (groups : List Group) (card : DeviceCard) (plan : DevicePlan) (shared : Option ℕ) → IsPlanOf names card plan
-    → IfSome shared (IsGroupOf groups card.pairs plan.model) → IfSome shared (IsShared names groups card)
-by_card names groups card plan None kept h = tt
-by_card names groups card plan (Some g) kept h = record { model = plan.model; known = kept.known; named = kept.model; group = h }
+pub by_card : (names : List (List ℕ)) (groups : List Group) (card : DeviceCard) (part : DevicePart) (model : ℕ) (shared : Option ℕ) → IsPlanOf names card part model
+    → IfSome shared (IsGroupOf groups card.pairs model) → IfSome shared (IsShared names groups card)
+by_card names groups card part model None kept h = tt
+by_card names groups card part model (Some g) kept h = record { model = model; known = kept.known; named = kept.model; group = h }
 
 -- ## More groups
 

@@ -87,21 +87,21 @@ cards_twice a b c g h = record {
   devices = h.devices ∙ ap (λ (l : List DevicePart). l ++ h.more_devices) g.devices ∙ append_assoc a.devices.items g.more_devices h.more_devices;
 }
 
-plan_stays : (a b : List (List ℕ)) (card : DeviceCard) (plan : DevicePlan) → Grows a b → IsPlanOf a card plan → IsPlanOf b card plan
-plan_stays a b card plan g p = record {
+plan_stays : (a b : List (List ℕ)) (card : DeviceCard) (part : DevicePart) (model : ℕ) → Grows a b → IsPlanOf a card part model → IsPlanOf b card part model
+plan_stays a b card part model g p = record {
   letter = p.letter;
   line = p.line;
   own = omega (arith, p.own, grows_length a b g);
-  name = grows_text a b plan.part.name g p.own ∙ p.name;
+  name = grows_text a b part.name g p.own ∙ p.name;
   known = omega (arith, p.known, grows_length a b g);
-  model = grows_text a b plan.model g p.known ∙ p.model;
+  model = grows_text a b model g p.known ∙ p.model;
 }
 
 device_stays : (a b : Cards) (card : DeviceCard) (number : ℕ) (plan : DevicePlan) → CardsGrow a b → IsDevicePlan a card number plan → IsDevicePlan b card number plan
 device_stays a b card number plan g p = record {
   inside = omega (arith, p.inside, ap length g.devices, length-append a.devices.items g.more_devices);
-  part = ap (λ l. part_at l number) g.devices ∙ get_or_append_left a.devices.items g.more_devices no_part number p.inside ∙ p.part;
-  kept = plan_stays a.names b.names card plan g.names p.kept;
+  kept = subst (λ part. IsPlanOf b.names card part plan.model) (sym (ap (λ l. part_at l number) g.devices ∙ get_or_append_left a.devices.items g.more_devices no_part number p.inside))
+      (plan_stays a.names b.names card (part_at a.devices.items number) plan.model g.names p.kept);
 }
 
 -- an element of a list that isn't empty
@@ -187,11 +187,10 @@ part_sound a b part g p d own s = record {
 pub part_grows : (a b : Cards) (part : InstancePart) → Grows a.names b.names → b.parts.items ≡ a.parts.items ++ part ∷ [] → b.devices.items ≡ a.devices.items → CardsGrow a b
 part_grows a b part g p d = record { names = g; more_parts = part ∷ []; parts = p; more_devices = []; devices = d ∙ sym (append-nil a.devices.items) }
 
-pub device_listed : (b : Cards) (old : List DevicePart) (card : DeviceCard) (number : ℕ) (plan : DevicePlan) → b.devices.items ≡ old ++ plan.part ∷ [] → number ≡ length old → IsPlanOf b.names card plan → IsDevicePlan b card number plan
-device_listed b old card number plan d k p = record {
-  inside = omega (arith, k, ap length d, length-append old (plan.part ∷ []));
-  part = ap (part_at b.devices.items) k ∙ ap (λ l. part_at l (length old)) d ∙ get_or-append_seam old plan.part [] no_part;
-  kept = p;
+pub device_listed : (b : Cards) (old : List DevicePart) (card : DeviceCard) (number : ℕ) (part : DevicePart) (plan : DevicePlan) → b.devices.items ≡ old ++ part ∷ [] → number ≡ length old → IsPlanOf b.names card part plan.model → IsDevicePlan b card number plan
+device_listed b old card number part plan d k p = record {
+  inside = omega (arith, k, ap length d, length-append old (part ∷ []));
+  kept = subst (λ x. IsPlanOf b.names card x plan.model) (sym (ap (part_at b.devices.items) k ∙ ap (λ l. part_at l (length old)) d ∙ get_or-append_seam old part [] no_part)) p;
 }
 
 pub part_listed : (names : List (List ℕ)) (old new : List InstancePart) (number : ℕ) (part : InstancePart) (link : Link) → new ≡ old ++ part ∷ [] → number ≡ length old → link_of names part ≡ link → link_at names new number ≡ link

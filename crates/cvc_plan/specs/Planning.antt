@@ -46,8 +46,7 @@ pub record AreSoundCards (k : Cards) : Type 0 where
 
 pub record IsDevicePlan (k : Cards) (card : DeviceCard) (number : ℕ) (plan : DevicePlan) : Type 0 where
   pub inside : number < length k.devices.items
-  pub part : part_at k.devices.items number ≡ plan.part
-  pub kept : IsPlanOf k.names card plan
+  pub kept : IsPlanOf k.names card (part_at k.devices.items number) plan.model
 
 pub record IsInstPlan (n : Netlist) (k : Cards) (card : InstCard) (number cell : ℕ) : Type 0 where
   pub inside : number < length k.parts.items

@@ -1,13 +1,13 @@
--- What is kept of cards: their names by numbers.
+-- What is kept of a device's card, with the number of its model: its names by their numbers.
 use Rattle.std.specs.Prelude.{◌≡◌, ℕ, ◌<◌, List, length}
 use Rattle.cvc_card.specs.declared.card.DeviceCard.{DeviceCard}
-use Rattle.cvc_plan.specs.declared.plan.DevicePlan.{DevicePlan}
+use Rattle.cvc_plan.specs.declared.rows.DevicePart.{DevicePart}
 use Rattle.cvc_plan.specs.Parts.{text}
 
-pub record IsPlanOf (names : List (List ℕ)) (card : DeviceCard) (plan : DevicePlan) : Type 0 where
-  pub letter : plan.part.letter ≡ card.letter
-  pub line : plan.part.line ≡ card.line
-  pub own : plan.part.name < length names
-  pub name : text names plan.part.name ≡ card.name
-  pub known : plan.model < length names
-  pub model : text names plan.model ≡ card.model
+pub record IsPlanOf (names : List (List ℕ)) (card : DeviceCard) (part : DevicePart) (number : ℕ) : Type 0 where
+  pub letter : part.letter ≡ card.letter
+  pub line : part.line ≡ card.line
+  pub own : part.name < length names
+  pub name : text names part.name ≡ card.name
+  pub known : number < length names
+  pub model : text names number ≡ card.model

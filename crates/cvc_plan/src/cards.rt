@@ -14,8 +14,8 @@ ghost use Rattle.cvc_plan.specs.Planning.{AreSoundCards, CardsGrow, HasNoPlan, I
 ghost use Rattle.std.specs.List.{AllZip};
 
 use crate::names::{check_count, narrow, number};
-use crate::pins::{PortPlan, port_names, port_plans};
-use crate::plan::{DevicePlan, device_of, part_of};
+use crate::pins::{PortPlan, device_pins, port_names, port_plans};
+use crate::plan::{DevicePlan, part_of};
 use crate::rows::{DevicePart, InstancePart};
 use cvc_base::NoMemory;
 use cvc_card::{DeviceCard, InstCard};
@@ -119,10 +119,16 @@ fn device_plan(
     ensures plan { IfOk result (λ plan. (n : Netlist) → take globals cards.old.names ≡ names_of_globals n
         → IsItemPlan n cards.new ports.now (items.Device card.now) plan) }
 {
-    let plan = device_of(&mut cards.names, globals, ports, card)?;
-    let number = narrow(cards.devices.len())?;
-    cards.devices.push(plan.part)?;
-    Ok(ItemPlan::Device(number, plan))
+    let name = number(&mut cards.names, card.name.bytes())?;
+    let pins = device_pins(&mut cards.names, globals, ports, card.nets.as_slice())?;
+    let model = number(&mut cards.names, card.model.bytes())?;
+    let place = narrow(cards.devices.len())?;
+    cards.devices.push(DevicePart {
+        letter: card.letter,
+        name,
+        line: card.line,
+    })?;
+    Ok(ItemPlan::Device(place, DevicePlan { pins, model }))
 }
 
 // What is kept of an instance, in a cell of these ports, of the cell of this number.

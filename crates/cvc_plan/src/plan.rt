@@ -1,19 +1,16 @@
 //! The cards of a netlist, with their names as numbers.
-ghost use Rattle.std.specs.Prelude.{◌≡◌, ◌<◌, ◌≤◌, IfOk, None, length, map, take};
-ghost use Rattle.cvc_card.specs.Card.{net_count};
+ghost use Rattle.std.specs.Prelude.{◌≡◌, ◌<◌, IfOk, None, length, map};
 ghost use Rattle.cvc_cdl.specs.Ending.{ports_cause};
 ghost use Rattle.cvc_plan.specs.Names.{Grows};
-ghost use Rattle.cvc_plan.specs.Pins.{ArePins};
-ghost use Rattle.cvc_plan.specs.Plans.{IsPlanOf};
 ghost use Rattle.cvc_plan.specs.Nets.{connections_of, paired};
 ghost use Rattle.cvc_plan.specs.Parts.{AreConnections, IsPart, link_of, pair_of};
 
 use crate::names::number;
-use crate::pins::{Pin, device_pins};
-use crate::rows::{Connection, DevicePart, InstancePart};
+use crate::pins::Pin;
+use crate::rows::{Connection, InstancePart};
 use arrayvec::ArrayVec;
 use cvc_base::{NoMemory, Pair, Text};
-use cvc_card::{DeviceCard, InstCard, Ports};
+use cvc_card::{InstCard, Ports};
 use cvc_names::Names;
 use std::alloc::Global;
 
@@ -84,37 +81,9 @@ pub(crate) fn part_of(
     Ok(InstancePart { name, connections })
 }
 
-/// What is kept of a device's card, with its pins and the number of its model.
+/// What is kept of a device's card beside its part: its pins and the number of its model.
 #[derive(Debug, Drop)]
 pub struct DevicePlan {
-    pub part: DevicePart,
     pub pins: ArrayVec<Pin, 4>,
     pub model: u32,
-}
-
-// What is kept of the card of a device in a cell of these ports. Names below `globals` are global.
-pub(crate) fn device_of(
-    names: &mut Names,
-    globals: usize,
-    ports: &Names,
-    card: &DeviceCard,
-) -> Result<DevicePlan, NoMemory>
-    requires formed { length card.now.nets ≡ net_count card.now.letter }
-    requires below { globals ≤ length names.old }
-    ensures grows { IfOk result (λ plan. Grows names.old names.new) }
-    ensures plan { IfOk result (λ plan. IsPlanOf names.new card.now plan) }
-    ensures pins { IfOk result (λ plan. ArePins names.new (take globals names.old) ports.now card.now.nets plan.pins.items) }
-{
-    let name = number(names, card.name.bytes())?;
-    let pins = device_pins(names, globals, ports, card.nets.as_slice())?;
-    let model = number(names, card.model.bytes())?;
-    Ok(DevicePlan {
-        part: DevicePart {
-            letter: card.letter,
-            name,
-            line: card.line,
-        },
-        pins,
-        model,
-    })
 }

@@ -97,9 +97,9 @@ returns-clause-added c = λ rows host.
 
 pub returns-clause-shared : goal.returns-clause-shared
 returns-clause-shared c =
-    by_card c.args.plan.now.cards.names c.group_of.new.groups.items c.args.card.now c.args.device.now c.group_of.new.shared c.requires.device.kept
+    by_card c.args.plan.now.cards.names c.group_of.new.groups.items c.args.card.now _ c.args.device.now.model c.group_of.new.shared c.requires.device.kept
     (subst (λ (o : Option ℕ). IfSome o (λ g. IfSome c.group_of.new.shared (IsGroupOf c.group_of.new.groups.items c.args.card.now.pairs c.args.device.now.model))) c.in-Some.is c.in_ok-found.ensures.shared)
 
 pub group_of-requires-clause-shared : goal.group_of-requires-clause-shared
 group_of-requires-clause-shared c =
-    by_number c.args.plan.now.cards.names c.args.made.now.groups.items c.args.card.now c.args.device.now c.args.shared.now c.requires.plan.apart c.requires.device.kept c.requires.shared
+    by_number c.args.plan.now.cards.names c.args.made.now.groups.items c.args.card.now _ c.args.device.now.model c.args.shared.now c.requires.plan.apart c.requires.device.kept c.requires.shared
