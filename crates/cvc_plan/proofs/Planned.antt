@@ -314,10 +314,7 @@ pub formed_at : (n : Netlist) (number : ℕ) → IsWellFormed n → number ≤ l
 formed_at n number w h =
     All-append (IsFormedLevel n.cells) n.cells (n.main ∷ []) w.levels (all_one (IsFormedLevel n.cells) n.main w.main) number no_cell (omega (arith, h, length-append n.cells (n.main ∷ [])))
 
--- what is kept of an item, by its own plan or by that of its cell
-pub own_kept : (n : Netlist) (p : Plan) (ports : List (List ℕ)) (item : Item) (own : ItemPlan) (cell place : ℕ) → IsItemPlan n p.cards ports item own → IsKept n p ports item (Some own) cell place
-own_kept n p ports item own cell place h = (own, refl, h)
-
+-- there is a plan of an item of a cell whose items are kept
 pub cell_kept : (n : Netlist) (p : Plan) (item : Item) (number place : ℕ) (cell : Cell) → IsPlan n p → number ≤ length n.cells → HasPlan p number → get_or (all_cells n) number no_cell ≡ cell → place < length cell.items → item ≡ get_or cell.items place item
     → IsKept n p cell.ports item None number place
 cell_kept n p item number place cell is known has at inside there = by (get_or p.cells.items number None) refl has

@@ -97,7 +97,7 @@ leave-requires-clause-some c =
 pub index-lists-requires : goal.index-lists-requires
 index-lists-requires c =
     let n = c.args.source.now.netlist.now in
-    let p = c.plan_next.new.plan in
+    let p = c.visits.plan in
     omega (arith, lists_inside n p c.visits.instances.items c.visits.made c.visits.sight.levels.items c.visits.mark c.visits.above.items c.visits.invariant.state c.visits.sight.indexes c.args.source.now.lists.now.cells.items c.visits.invariant.sees.listed)
 
 pub place-requires-clause-device : goal.place-requires-clause-device
@@ -395,8 +395,8 @@ index-given-requires c =
     let inst : IsInstPlan n p.cards c.in-Inst-Inst.card c.in-Inst-Inst.number c.in-Inst-Inst.used.cell = both.0 in
     omega (arith, used_inside n c.visits.sight.indexes c.args.source.now.lists.now.cells.items c.visits.invariant.sees.listed c.in-Inst-Inst.used.cell inst.known)
 
-pub index-requires-in-Inst-Inst : goal.index-requires-in-Inst-Inst
-index-requires-in-Inst-Inst c =
+pub index-requires : goal.index-requires
+index-requires c =
     let n = c.args.source.now.netlist.now in
     let p = c.plan_next.new.plan in
     let rows = c.visits.instances.items in
@@ -447,8 +447,8 @@ enter-requires-in-Inst-Inst-clause-card c =
     let lists = c.args.source.now.lists.now.cells.items in
     let listed = c.visits.invariant.sees.listed in
     let back : mark.next + 1 - 1 ≡ mark.next = omega arith in
-    card_listed n p rows made levels mark above s x lists listed c.index-lists.result.now item c.in-Inst-Inst.card c.index-in-Inst-Inst.result.now c.index-in-Inst-Inst.result.now c.index-lists.ensures inside c.get-item.ensures
-    (c.index-in-Inst-Inst.ensures ∙ ap (λ j. get_or c.index-lists.result.now.items.items j c.index-in-Inst-Inst.result.now) back) c.in-Inst-Inst.is-0
+    card_listed n p rows made levels mark above s x lists listed c.index-lists.result.now item c.in-Inst-Inst.card c.index.result.now c.index.result.now c.index-lists.ensures inside c.get-item.ensures
+    (c.index.ensures ∙ ap (λ j. get_or c.index-lists.result.now.items.items j c.index.result.now) back) c.in-Inst-Inst.is-0
 
 pub enter-requires-in-Inst-Inst-clause-cell : goal.enter-requires-in-Inst-Inst-clause-cell
 enter-requires-in-Inst-Inst-clause-cell c =
@@ -542,5 +542,20 @@ plan_next-requires-clause-top c =
     let s = c.visits.invariant.state in
     top_here n p rows made levels mark above s
 
-pub planned_item-requires : goal.planned_item-requires
-planned_item-requires c = ap is_some c.in_ok-fresh.ensures.kept.1
+pub planned_item-planned-requires : goal.planned_item-planned-requires
+planned_item-planned-requires c = ap is_some c.in_ok-fresh.ensures.kept.1
+
+pub returns-in_err-join-in-Inst-Inst-clause-refused : goal.returns-in_err-join-in-Inst-Inst-clause-refused
+returns-in_err-join-in-Inst-Inst-clause-refused c =
+    let w = err_from_is_err_and c.from_residual-in_err-join-in-Inst-Inst.result c.from_residual-in_err-join-in-Inst-Inst.ensures.1 in
+    rw (w.1, w.2) tt
+
+pub returns-in_err-push-in-Inst-Inst-clause-refused : goal.returns-in_err-push-in-Inst-Inst-clause-refused
+returns-in_err-push-in-Inst-Inst-clause-refused c =
+    let w = err_from_is_err_and c.from_residual-in_err-push-in-Inst-Inst.result c.from_residual-in_err-push-in-Inst-Inst.ensures.1 in
+    rw (w.1, w.2) tt
+
+pub returns-in_err-enter-in-Inst-Inst-clause-refused : goal.returns-in_err-enter-in-Inst-Inst-clause-refused
+returns-in_err-enter-in-Inst-Inst-clause-refused c =
+    let w = err_from_is_err_and c.from_residual-in_err-enter-in-Inst-Inst.result c.from_residual-in_err-enter-in-Inst-Inst.ensures.1 in
+    rw (w.1, w.2) tt
