@@ -152,7 +152,7 @@ pub(crate) fn first_named(
     ensures place { (f : FlatList) → f.globals ≡ take globals names.now
         → f.instances ≡ map (path_of names.now parts.now) (drop 1 (ways_of instances.now))
         → result ≡ option_and_then (number_among (map (net_at names.now parts.now (ways_of instances.now)) nets.now))
-            (net_named f [] (pieces text.now)) }
+        (net_named f [] (pieces text.now)) }
 {
     let mut up = 0;
     let mut rest = text;

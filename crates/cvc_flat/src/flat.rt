@@ -42,11 +42,29 @@ impl Model for Flat {
 
     ghost Value = { Held };
 
-    ghost view = { λ f. held_of (record { top = f.top; names = f.names; globals = f.globals; parts = f.parts.items; cards = f.cards.items;
-        groups = f.groups.items; instances = f.instances.items; devices = f.devices.items; nets = f.nets.items }) };
+    ghost view = { λ f. held_of (record {
+      top = f.top;
+      names = f.names;
+      globals = f.globals;
+      parts = f.parts.items;
+      cards = f.cards.items;
+      groups = f.groups.items;
+      instances = f.instances.items;
+      devices = f.devices.items;
+      nets = f.nets.items;
+    }) };
 
-    ghost invariant = { λ f. IsSound (record { top = f.top; names = f.names; globals = f.globals; parts = f.parts.items; cards = f.cards.items;
-        groups = f.groups.items; instances = f.instances.items; devices = f.devices.items; nets = f.nets.items })
+    ghost invariant = { λ f. IsSound (record {
+      top = f.top;
+      names = f.names;
+      globals = f.globals;
+      parts = f.parts.items;
+      cards = f.cards.items;
+      groups = f.groups.items;
+      instances = f.instances.items;
+      devices = f.devices.items;
+      nets = f.nets.items;
+    })
         × IsFinder f.names f.parts.items f.instances.items f.nets.items f.finder };
 }
 

@@ -159,7 +159,7 @@ pub(crate) fn place<'n>(
     ensures refused { (rows : List InstanceRow)
         → IsHost source.now.netlist.now plan.now rows made.old (instance_of sight.old.levels.items) instance ports.now
         → Refuses (option_map (fault_at card.now.line) (device_cause_in limits source.now.netlist.now (length made.old.devices.items)
-            (known_nets plan.now.cards rows made.old.nets) (instance_of sight.old.levels.items) card.now)) result }
+        (known_nets plan.now.cards rows made.old.nets) (instance_of sight.old.levels.items) card.now)) result }
     ensures added { (rows : List InstanceRow)
         → IsHost source.now.netlist.now plan.now rows made.old (instance_of sight.old.levels.items) instance ports.now
         → OnOk result (AddsDevice source.now.netlist.now plan.now rows made.old made.new (instance_of sight.old.levels.items) card.now) }

@@ -20,7 +20,8 @@ use cvc_base::{NoMemory, Refusal, Text};
 use cvc_cdl::{Cell, Item, Netlist};
 use cvc_params::{Level, Lists, Sight, lists_of};
 use cvc_plan::{
-    ItemPlan, Plan, cell_of, join, open_plan, plan_cell, plan_item, planned_item, ports_from, top_ports,
+    ItemPlan, Plan, cell_of, join, open_plan, plan_cell, plan_item, planned_item, ports_from,
+    top_ports,
 };
 use std::alloc::Global;
 

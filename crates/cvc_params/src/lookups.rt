@@ -67,7 +67,7 @@ impl<'n> Sight<'n> {
         requires empty { trail.old.items ≡ [] }
         ensures last { IfOk result (λ last. option_map (λ text. text.now) last
             ≡ last_text self.now.netlist.now (suc (pairs_above self.now.netlist.now (instance_of self.now.levels.items)))
-                (use_in self.now.levels.items start.entry)) }
+            (use_in self.now.levels.items start.entry)) }
         ensures trail { IfOk result (λ last. IfSome last (λ text. All (IsAnsweredBy self.now.netlist.now self.now.levels.items text.now) trail.new.items)) }
     {
         let mut left = steps;

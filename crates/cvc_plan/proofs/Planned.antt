@@ -329,8 +329,7 @@ cell_kept n p item number place cell is known has at inside there = by (get_or p
     by (Some kept) e h =
         let zipped : AllZip (IsItemPlan n p.cards cell.ports) cell.items kept.items.items = subst (λ (o : Option CellPlan). IfSome o (IsCellPlan n p.cards cell)) e all in
         let long : place < length kept.items.items = omega (arith, inside, zip_length (IsItemPlan n p.cards cell.ports) cell.items kept.items.items zipped) in
-        let w = element kept.items.items place long in
-        (
+        let w = element kept.items.items place long in (
           w.0,
           ap (option_and_then (λ (k : CellPlan). slice_get k.items.items place)) e ∙ slice_get-get_or kept.items.items place w.0 long ∙ ap Some (sym w.1),
           subst (λ x. IsItemPlan n p.cards cell.ports x w.0) (sym there)
