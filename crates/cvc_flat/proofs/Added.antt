@@ -51,9 +51,9 @@ module _ (n : Netlist) (p : Plan) (rows : List InstanceRow) (old new : Made) (wi
     (sound : IsSound (tables_of n p rows old)) (inside : row.instance ≤ length rows)
     (path : path_of p.cards.names p.cards.parts.items (way_at (ways_of rows) row.instance) ≡ path_in n within)
     (pins : NumbersPins p rows old.nets new.nets nets row.pins.items)
-    (at : row.card ≡ number) (takes : TakesGroup n within card.pairs plan.model old.groups.items new.groups.items row.group)
+    (at : row.card ≡ number) (takes : TakesGroup n within card.pairs plan.model old.groups new.groups row.group)
     (devices : new.devices.items ≡ old.devices.items ++ row ∷ [])
-    (few : length old.devices.items < 500000) (fewer : length old.groups.items ≤ length old.devices.items) (room : length new.nets ≤ 1000000) where
+    (few : length old.devices.items < 500000) (fewer : length old.groups ≤ length old.devices.items) (room : length new.nets ≤ 1000000) where
   abbrev ways : List Way
   ways = ways_of rows
 
@@ -76,8 +76,8 @@ module _ (n : Netlist) (p : Plan) (rows : List InstanceRow) (old new : Made) (wi
       let w = once_more (known_nets p.cards rows old.nets) nets in
       omega (arith, ap length (pins.known ∙ w.1), length-append (known_nets p.cards rows old.nets) w.0, length-map old.nets (net_at p.cards.names p.cards.parts.items ways), length-map new.nets (net_at p.cards.names p.cards.parts.items ways))
 
-  groups_more : length new.groups.items ≡ length old.groups.items + length takes.more
-  groups_more = omega (arith, ap length takes.groups, length-append old.groups.items takes.more)
+  groups_more : length new.groups ≡ length old.groups + length takes.more
+  groups_more = omega (arith, ap length takes.groups, length-append old.groups takes.more)
 
   devices_more : length new.devices.items ≡ length old.devices.items + 1
   devices_more = omega (arith, ap length devices, length-append old.devices.items (row ∷ []))
@@ -92,7 +92,7 @@ module _ (n : Netlist) (p : Plan) (rows : List InstanceRow) (old new : Made) (wi
 
   device_there : (r : DeviceRow) → IsDevice (tables_of n p rows old) r → IsDevice (tables_of n p rows new) r
   device_there r w =
-      let grouped : r.group < length new.groups.items = omega (arith, w.2, groups_more) in
+      let grouped : r.group < length new.groups = omega (arith, w.2, groups_more) in
       (w.0, w.1, grouped, w.3, below_more r.pins.items (length old.nets) (length new.nets) known_more w.4)
 
   all_devices : All (IsDevice (tables_of n p rows new)) new.devices.items
@@ -100,10 +100,10 @@ module _ (n : Netlist) (p : Plan) (rows : List InstanceRow) (old new : Made) (wi
       subst (All (IsDevice (tables_of n p rows new))) (sym devices)
       (All-append (IsDevice (tables_of n p rows new)) old.devices.items (row ∷ []) (λ k e b. device_there (get_or old.devices.items k e) (sound.devices k e b)) (all_one (IsDevice (tables_of n p rows new)) row device_here))
 
-  all_groups : All (λ (g : Group). g.model < length p.cards.names) new.groups.items
+  all_groups : All (λ (g : Group). g.model < length p.cards.names) new.groups
   all_groups =
       subst (All (λ (g : Group). g.model < length p.cards.names)) (sym takes.groups)
-      (All-append (λ (g : Group). g.model < length p.cards.names) old.groups.items takes.more sound.groups (λ k e b. subst (λ m. m < length p.cards.names) (sym (takes.models k e b)) d.kept.known))
+      (All-append (λ (g : Group). g.model < length p.cards.names) old.groups takes.more sound.groups (λ k e b. subst (λ m. m < length p.cards.names) (sym (takes.models k e b)) d.kept.known))
 
   now_sound : IsSound (tables_of n p rows new)
   now_sound = record {

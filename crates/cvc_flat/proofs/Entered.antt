@@ -101,8 +101,8 @@ module _ (n : Netlist) (p : Plan) (rows : List InstanceRow) (made : Made) (withi
         within = names_on names parts (way_stays rows r x.instance (sound.devices k d b).0 i);
         name = text names (part_at p.cards.devices.items x.card).name;
         pins = x.pins.items;
-        model = text names (group_at made.groups.items x.group).model;
-        params = (group_at made.groups.items x.group).params;
+        model = text names (group_at made.groups x.group).model;
+        params = (group_at made.groups x.group).params;
         line = (part_at p.cards.devices.items x.card).line;
       })
 

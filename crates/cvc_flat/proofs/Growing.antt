@@ -105,7 +105,7 @@ module _ (n : Netlist) (p q : Plan) (grows : PlanGrows p q) (old : IsPlan n p) (
         let part = part_stays r.card d.1 in
         let path = path_stays r.instance in
         let own : DevicePart = part_at p.cards.devices.items r.card in
-        let group : Group = group_at made.groups.items r.group in
+        let group : Group = group_at made.groups r.group in
         let name = ap (λ (x : DevicePart). text more x.name) part ∙ grows_text names more own.name grown (sound.cards r.card no_part d.1) in
         let model = grows_text names more group.model grown (sound.groups r.group no_group d.2) in
         λ i. record { letter = (part i).letter; within = names_of (path i); name = name i; pins = r.pins.items; model = model i; params = group.params; line = (part i).line }

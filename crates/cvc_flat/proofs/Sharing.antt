@@ -4,6 +4,7 @@ use Rattle.std.specs.Prelude.{IfSome, Option, Some, None, is_none}
 use Rattle.std.specs.List.{AllZip}
 use Rattle.std.proofs.lemmas.List.{append-nil, get_or_append_left}
 use Rattle.cvc_base.specs.declared.param.Pair.{Pair}
+use Rattle.cvc_base.specs.declared.param.Param.{Param}
 use Rattle.cvc_card.specs.declared.card.DeviceCard.{DeviceCard}
 use Rattle.cvc_cdl.specs.declared.netlist.Cell.{Cell}
 use Rattle.cvc_cdl.specs.declared.netlist.Item.{Item}
@@ -12,6 +13,7 @@ use Rattle.cvc_cdl.specs.declared.netlist.Netlist.{Netlist}
 use Rattle.cvc_cdl.specs.Instances.{Instance, all_cells, no_cell}
 use Rattle.cvc_cdl.proofs.Zips.{zip_at, zip_length, zip_map}
 use Rattle.cvc_params.specs.declared.level.Level.{Level}
+use Rattle.cvc_params.specs.Params.{params_in}
 use Rattle.cvc_params.specs.Places.{has_loop}
 use Rattle.cvc_params.proofs.Loops.{params_none}
 use Rattle.cvc_plan.specs.declared.cards.Plan.{Plan}
@@ -24,7 +26,7 @@ use Rattle.cvc_flat.specs.declared.rows.InstanceRow.{InstanceRow}
 use Rattle.cvc_flat.specs.declared.steps.Made.{Made}
 use Rattle.cvc_flat.specs.declared.walk.Mark.{Mark}
 use Rattle.cvc_names.specs.Names.{AreApart}
-use Rattle.cvc_flat.specs.Sharing.{AreItemsShared, AreShared, HasNoGroups, IsGroupOf, IsItemShared, IsShared, TakesGroup}
+use Rattle.cvc_flat.specs.Sharing.{AreItemsShared, AreShared, HasNoGroups, IsGroupOf, IsItemShared, IsNumbered, IsShared, TakesGroup}
 use Rattle.cvc_flat.specs.Tables.{no_group}
 use Rattle.cvc_flat.proofs.States.{IsState, here}
 
@@ -42,6 +44,28 @@ takes_known n p groups pairs model g h = record {
   inside = h.inside;
   of_model = h.of_model;
   params = h.params n p;
+}
+
+-- a group that was looked up, for pairs that have these parameters in the instance
+pub takes_numbered : (n : Netlist) (p : Instance) (pairs : List Pair) (model : ℕ) (params : List Param) (old new : List Group) (g : ℕ)
+    → params_in n p pairs ≡ Some params → IsNumbered model params old new g → TakesGroup n p pairs model old new g
+takes_numbered n p pairs model params old new g is h = record {
+  more = h.more;
+  groups = h.groups;
+  few = h.few;
+  models = h.models;
+  inside = h.inside;
+  of_model = ap (λ (x : Group). x.model) h.group;
+  params = is ∙ ap (λ (x : Group). Some x.params) (sym h.group);
+}
+
+-- and for pairs that have them in every instance
+pub numbered_shared : (pairs : List Pair) (model : ℕ) (params : List Param) (old new : List Group) (g : ℕ)
+    → ((n : Netlist) (p : Instance) → params_in n p pairs ≡ Some params) → IsNumbered model params old new g → IsGroupOf new pairs model g
+numbered_shared pairs model params old new g is h = record {
+  inside = h.inside;
+  of_model = ap (λ (x : Group). x.model) h.group;
+  params = λ n p. is n p ∙ ap (λ (x : Group). Some x.params) (sym h.group);
 }
 
 -- ## By numbers, and by the card

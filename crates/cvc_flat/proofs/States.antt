@@ -46,7 +46,7 @@ pub record IsState (n : Netlist) (p : Plan) (rows : List InstanceRow) (made : Ma
   pub sound : IsSound (tables_of n p rows made)
   pub marks : AreMarks n p rows (reverse levels) mark (reverse above)
   pub ways : AreLevels n levels
-  pub groups : length made.groups.items ≤ length made.devices.items
+  pub groups : length made.groups ≤ length made.devices.items
   pub deep : length levels ≤ 64
 
 map_reverse : {A B : Type 0} (f : A → B) (xs : List A) → map f (reverse xs) ≡ reverse (map f xs)
@@ -101,7 +101,7 @@ nothing : {A : Type 0} (P : A → Type 0) (xs : List A) → xs ≡ [] → All P 
 nothing P xs e = subst (All P) (sym e) (λ k d b. absurd (omega arith))
 
 module _ (n : Netlist) (p : Plan) (made : Made) (mark : Mark) (plan : IsPlan n p) (top : mark.cell.now ≡ cell_at n []) (of_top : mark.plan ≡ p.top) (first : mark.instance ≡ 0) (zero_next : mark.next ≡ 0)
-    (devices : made.devices.items ≡ []) (groups : made.groups.items ≡ []) (nets : known_nets p.cards [] made.nets ≡ nets_behind n [])
+    (devices : made.devices.items ≡ []) (groups : made.groups ≡ []) (nets : known_nets p.cards [] made.nets ≡ nets_behind n [])
     (within : All (λ (r : NetRow). (r.instance ≤ 0) × (r.name < length p.cards.names)) made.nets) (room : length made.nets ≤ 1000000) where
   mark_begins : IsMark n p [] [] mark
   mark_begins = record {
@@ -119,7 +119,7 @@ module _ (n : Netlist) (p : Plan) (made : Made) (mark : Mark) (plan : IsPlan n p
   walked_begins : IsWalked n p [] made [] mark []
   walked_begins = record { done = []; shows = shows_begins; whole = begins n mark zero_next; fault = ap (walk_fault limits n []) (sym (begins n mark zero_next)) }
 
-  no_groups : length made.groups.items ≡ 0
+  no_groups : length made.groups ≡ 0
   no_groups = ap length groups
 
   no_devices : length made.devices.items ≡ 0
@@ -136,7 +136,7 @@ module _ (n : Netlist) (p : Plan) (made : Made) (mark : Mark) (plan : IsPlan n p
     globals = plan.below;
     parts = plan.cards.parts;
     cards = plan.cards.devices;
-    groups = nothing (λ (g : Group). g.model < length p.cards.names) made.groups.items groups;
+    groups = nothing (λ (g : Group). g.model < length p.cards.names) made.groups groups;
     tree = record { parents = λ i h. absurd (omega (arith, h)); depth = top_depth };
     instances = λ k d b. absurd (omega (arith, b));
     devices = nothing (IsDevice (tables_of n p [] made)) made.devices.items devices;

@@ -17,6 +17,10 @@ pub twice_known : (before : Option (List ℕ)) (x y : List ℕ) → append_known
 twice_known None x y = refl
 twice_known (Some l) x y = ap Some (append_assoc l x y)
 
+pub known_nil : (o : Option (List ℕ)) → o ≡ append_known o []
+known_nil None = refl
+known_nil (Some l) = ap Some (sym (append-nil l))
+
 -- one more piece of the text was taken
 pub written_more : (text : List ℕ) (done count : ℕ) (before so_far after : Option (List ℕ)) → so_far ≡ append_known before (take done text) → after ≡ append_known so_far (take count (take (length text - done) (drop done text))) → after ≡ append_known before (take (done + count) text)
 written_more text done count before so_far after e new =
@@ -36,14 +40,14 @@ part_behind done piece more text before so_far after e whole p = record {
   written = p.written ∙ ap (λ (o : Option (List ℕ)). append_known o p.part) e ∙ twice_known before done p.part;
 }
 
+-- and one of a piece in front
+pub front_part : (piece more : List ℕ) (before after : Option (List ℕ)) → WritesPart before after piece → WritesPart before after (piece ++ more)
+front_part piece more before after p = part_behind [] piece more (piece ++ more) before before after (known_nil before) refl p
+
 -- the outermost name is printed first
 pub printed_last : (names : List (List ℕ)) (outer name : List ℕ) → printed (names ++ outer ∷ []) name ≡ outer ++ (codes "/" ++ printed names name)
 printed_last [] outer name = append_assoc outer (codes "/") name
 printed_last (own ∷ up) outer name = printed_last up outer (own ++ codes "/" ++ name)
-
-pub known_nil : (o : Option (List ℕ)) → o ≡ append_known o []
-known_nil None = refl
-known_nil (Some l) = ap Some (sym (append-nil l))
 
 -- the last piece of a text
 pub writes_last : (r : Result (Unit {0}) WriteFailed) (done piece text : List ℕ) (before so_far after : Option (List ℕ)) → so_far ≡ append_known before done → done ++ piece ≡ text
@@ -58,3 +62,11 @@ path_last names parts way card part name inside is =
     ap (λ ns. printed ns name) (ap (map name_of_link) (map-append (link_at names parts) way (card ∷ [])) ∙ map-append name_of_link (map (link_at names parts) way) (link_at names parts card ∷ []))
     ∙ printed_last (names_on names parts way) (name_of_link (link_at names parts card)) name
     ∙ ap (λ (l : List ℕ). l ++ (codes "/" ++ printed (names_on names parts way) name)) (ap name_of_link (link_is names parts card part inside is))
+
+-- the same, where the outermost name is this text
+pub next_step : (names : List (List ℕ)) (parts : List InstancePart) (way up : List ℕ) (card : ℕ) (part : InstancePart) (name outer : List ℕ) → way ≡ up ++ card ∷ [] → card < length parts
+    → part ≡ get_or parts card part → outer ≡ text names part.name → printed (names_on names parts way) name ≡ (outer ++ codes "/") ++ printed (names_on names parts up) name
+next_step names parts way up card part name outer last inside is own =
+    ap (λ w. printed (names_on names parts w) name) last ∙ path_last names parts up card part name inside is
+    ∙ ap (λ (l : List ℕ). l ++ (codes "/" ++ printed (names_on names parts up) name)) (sym own)
+    ∙ sym (append_assoc outer (codes "/") (printed (names_on names parts up) name))

@@ -73,7 +73,7 @@ tables_of n p rows m = record {
   globals = p.globals;
   parts = p.cards.parts.items;
   cards = p.cards.devices.items;
-  groups = m.groups.items;
+  groups = m.groups;
   instances = rows;
   devices = m.devices.items;
   nets = m.nets;
@@ -83,12 +83,12 @@ tables_of n p rows m = record {
 pub record AddsDevice (n : Netlist) (p : Plan) (rows : List InstanceRow) (old new : Made) (within : Instance) (card : DeviceCard) : Type 0 where
   pub nets : known_nets p.cards rows new.nets ≡ nets_once (known_nets p.cards rows old.nets) (pins_of n within card)
   pub more : List Group
-  pub groups : new.groups.items ≡ old.groups.items ++ more
+  pub groups : new.groups ≡ old.groups ++ more
   pub row : DeviceRow
   pub devices : new.devices.items ≡ old.devices.items ++ row ∷ []
   pub shown : device_at (tables_of n p rows new) (ways_of rows) row ≡ flat_device n (known_nets p.cards rows new.nets) record { within = within; card = card }
   pub sound : IsSound (tables_of n p rows new)
-  pub counted : length new.groups.items ≤ length new.devices.items
+  pub counted : length new.groups ≤ length new.devices.items
 
 -- the tables show what lies behind these visits
 pub record Shows (n : Netlist) (t : Tables) (visits : List Visit) : Type 0 where

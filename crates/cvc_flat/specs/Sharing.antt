@@ -1,8 +1,9 @@
--- Groups that devices share. A card whose values are all numbers has one group for all its devices, in all instances, from its first device on; each
--- other device has a group of its own.
+-- Groups that devices share. A card whose values are all numbers has one group for all its devices, in all instances, which is known from its first
+-- device on; for each other device its group is looked up. A group is made where none has that model and those parameters.
 use Rattle.std.specs.Prelude.{◌≡◌, ℕ, ◌<◌, ◌≤◌, List, ◌++◌, length, All, Option, Some, None, IfSome, replicate}
 use Rattle.std.specs.List.{AllZip}
 use Rattle.cvc_base.specs.declared.param.Pair.{Pair}
+use Rattle.cvc_base.specs.declared.param.Param.{Param}
 use Rattle.cvc_card.specs.declared.card.DeviceCard.{DeviceCard}
 use Rattle.cvc_cdl.specs.declared.netlist.Cell.{Cell}
 use Rattle.cvc_cdl.specs.declared.netlist.Item.{Item}
@@ -30,6 +31,15 @@ pub record TakesGroup (n : Netlist) (p : Instance) (pairs : List Pair) (model : 
   pub inside : g < length new
   pub of_model : (group_at new g).model ≡ model
   pub params : params_in n p pairs ≡ Some (group_at new g).params
+
+-- the group has this model and these parameters; it is one of the old ones or the only new one
+pub record IsNumbered (model : ℕ) (params : List Param) (old new : List Group) (g : ℕ) : Type 0 where
+  pub more : List Group
+  pub groups : new ≡ old ++ more
+  pub few : length more ≤ 1
+  pub models : All (λ (x : Group). x.model ≡ model) more
+  pub inside : g < length new
+  pub group : group_at new g ≡ record { model = model; params = params }
 
 -- all devices of the card have the group
 pub record IsShared (names : List (List ℕ)) (groups : List Group) (card : DeviceCard) (g : ℕ) : Type 0 where

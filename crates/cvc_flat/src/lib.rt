@@ -5,6 +5,7 @@
 mod find;
 mod finder;
 mod flat;
+mod group_table;
 mod hashes;
 mod nets;
 mod printing;

@@ -7,7 +7,7 @@ ghost use Rattle.cvc_params.specs.Sights.{IsSight, SeesTheSame};
 ghost use Rattle.cvc_cdl.specs.Instances.{all_cells};
 ghost use Rattle.cvc_flat.specs.Sharing.{HasNoGroups, IsGroupOf, TakesGroup};
 
-use crate::rows::Group;
+use crate::group_table::GroupTable;
 use cvc_base::{NoMemory, Pairs};
 use cvc_cdl::{Cell, Netlist};
 use cvc_params::{Sight, plain_params};
@@ -39,32 +39,32 @@ pub(crate) fn no_groups(alloc: Global, netlist: &Netlist) -> Result<Vec<CellGrou
     Ok(cells)
 }
 
-// The group of a device with these pairs, or `None` where one of its parameters is a loop. Devices of one card share a group where all values are
-// numbers, and it is made once.
+// The group of a device with these pairs, or `None` where one of its parameters is a loop. For a card whose values are all numbers it is looked up
+// once, for the first device.
+#[tactic(auto, using(crate::proofs::Sharing::takes_numbered, crate::proofs::Sharing::numbered_shared))]
 pub(crate) fn group_of<'n>(
     alloc: Global,
     sight: &mut Sight<'n>,
     pairs: &'n Pairs,
     model: u32,
     shared: &mut Option<u32>,
-    groups: &mut Vec<Group>,
+    groups: &mut GroupTable,
 ) -> Result<Option<u32>, NoMemory>
     requires sight { IsSight sight.old }
-    requires shared { IfSome shared.old (IsGroupOf groups.old.items pairs.now model) }
-    requires few { length groups.old.items ≤ 500000 }
+    requires shared { IfSome shared.old (IsGroupOf groups.old pairs.now model) }
+    requires few { length groups.old ≤ 500000 }
     ensures sight { IfOk result (λ group. IsSight sight.new) }
     ensures same { IfOk result (λ group. SeesTheSame sight.old sight.new) }
     ensures looped { IfOk result (λ group. is_none group ≡ has_loop sight.old.netlist.now (instance_of sight.old.levels.items) pairs.now) }
     ensures group { IfOk result (λ group. IfSome group
-        (TakesGroup sight.old.netlist.now (instance_of sight.old.levels.items) pairs.now model groups.old.items groups.new.items)) }
-    ensures shared { IfOk result (λ group. IfSome group (λ g. IfSome shared.new (IsGroupOf groups.new.items pairs.now model))) }
+        (TakesGroup sight.old.netlist.now (instance_of sight.old.levels.items) pairs.now model groups.old groups.new)) }
+    ensures shared { IfOk result (λ group. IfSome group (λ g. IfSome shared.new (IsGroupOf groups.new pairs.now model))) }
 {
     if let Some(group) = *shared {
         return Ok(Some(group));
     }
-    let group = groups.len() as u32;
     if let Some(params) = plain_params(alloc, pairs)? {
-        groups.push(Group { model, params })?;
+        let group = groups.number(model, params)?;
         *shared = Some(group);
         return Ok(Some(group));
     }
@@ -72,6 +72,5 @@ pub(crate) fn group_of<'n>(
     let Some(params) = found else {
         return Ok(None);
     };
-    groups.push(Group { model, params })?;
-    Ok(Some(group))
+    Ok(Some(groups.number(model, params)?))
 }

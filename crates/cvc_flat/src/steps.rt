@@ -19,8 +19,9 @@ ghost use Rattle.cvc_names.specs.Names.{AreApart};
 ghost use Rattle.cvc_flat.specs.Sharing.{IsShared};
 ghost use Rattle.cvc_flat.specs.declared.rows.InstanceRow.{InstanceRow};
 
+use crate::group_table::GroupTable;
 use crate::nets::NetTable;
-use crate::rows::{DeviceRow, Group, InstanceRow};
+use crate::rows::{DeviceRow, InstanceRow};
 use crate::shared::group_of;
 use arrayvec::ArrayVec;
 use cvc_base::{Cause, Fault, FileKind, NetId, NoMemory, Refusal};
@@ -43,7 +44,7 @@ pub(crate) struct Source<'n> {
 pub(crate) struct Made {
     pub nets: NetTable,
     pub devices: Vec<DeviceRow>,
-    pub groups: Vec<Group>,
+    pub groups: GroupTable,
 }
 
 // The most instances, names on a path, devices and nets.
@@ -147,7 +148,7 @@ pub(crate) fn place<'n>(
     made: &mut Made,
 ) -> Result<(), Refusal>
     requires plan { IsPlan source.now.netlist.now plan.now }
-    requires groups { length made.old.groups.items ≤ length made.old.devices.items }
+    requires groups { length made.old.groups ≤ length made.old.devices.items }
     requires sight { IsSight sight.old }
     requires same { sight.old.netlist.now ≡ source.now.netlist.now }
     requires ports { length ports.now ≡ length (cell_at source.now.netlist.now (instance_of sight.old.levels.items)).ports }
@@ -155,7 +156,7 @@ pub(crate) fn place<'n>(
     requires pins { ArePins plan.now.cards.names (global_names source.now.netlist.now)
         (cell_at source.now.netlist.now (instance_of sight.old.levels.items)).ports card.now.nets device.now.pins.items }
     requires formed { length card.now.nets ≡ net_count card.now.letter }
-    requires shared { IfSome shared.old (IsShared plan.now.cards.names made.old.groups.items card.now) }
+    requires shared { IfSome shared.old (IsShared plan.now.cards.names made.old.groups card.now) }
     ensures refused { (rows : List InstanceRow)
         → IsHost source.now.netlist.now plan.now rows made.old (instance_of sight.old.levels.items) instance ports.now
         → Refuses (option_map (fault_at card.now.line) (device_cause_in limits source.now.netlist.now (length made.old.devices.items)
@@ -163,7 +164,7 @@ pub(crate) fn place<'n>(
     ensures added { (rows : List InstanceRow)
         → IsHost source.now.netlist.now plan.now rows made.old (instance_of sight.old.levels.items) instance ports.now
         → OnOk result (AddsDevice source.now.netlist.now plan.now rows made.old made.new (instance_of sight.old.levels.items) card.now) }
-    ensures shared { OnOk result (IfSome shared.new (IsShared plan.now.cards.names made.new.groups.items card.now)) }
+    ensures shared { OnOk result (IfSome shared.new (IsShared plan.now.cards.names made.new.groups card.now)) }
     ensures sight { OnOk result (IsSight sight.new) }
     ensures sees { OnOk result (SeesTheSame sight.old sight.new) }
 {

@@ -12,6 +12,7 @@ ghost use Rattle.cvc_flat.specs.Tables.{IsSound, held_of};
 
 use crate::Flat;
 use crate::finder::Finder;
+use crate::group_table::GroupTable;
 use crate::nets::NetTable;
 use crate::rows::InstanceRow;
 use crate::shared::no_groups;
@@ -99,7 +100,7 @@ fn walk<'n>(
     let mut made = Made {
         nets,
         devices: Vec::new(alloc),
-        groups: Vec::new(alloc),
+        groups: GroupTable::new(alloc),
     };
     let openings = plan.openings.as_slice();
     let mut ports = top_ports(alloc, openings, plan.globals)?;
@@ -218,7 +219,7 @@ fn list_of(alloc: Global, netlist: &Netlist, walked: Walked) -> Result<Flat, NoM
         globals,
         parts: cards.parts,
         cards: cards.devices,
-        groups,
+        groups: groups.into_vec(),
         instances,
         devices,
         nets,

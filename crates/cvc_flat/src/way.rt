@@ -1,5 +1,5 @@
 //! Names printed by their parts.
-ghost use Rattle.std.specs.Prelude.{◌≡◌, ◌<◌, ◌≤◌, All, length};
+ghost use Rattle.std.specs.Prelude.{◌≡◌, ◌<◌, ◌≤◌, ◌++◌, All, codes, length};
 ghost use Rattle.cvc_io.specs.Causes.{HasCause};
 ghost use Rattle.cvc_cdl.specs.Instances.{printed};
 ghost use Rattle.cvc_plan.specs.Parts.{text};
@@ -40,6 +40,16 @@ pub(crate) fn way_up(instances: &[InstanceRow], instance: u32) -> ArrayVec<u32, 
     way
 }
 
+// Writes a name and a `/`.
+#[tactic(auto, using(crate::proofs::Writing::front_part, crate::proofs::Writing::writes_last))]
+fn write_step<K: Sink>(sink: &mut K, name: &[u8]) -> Result<(), WriteFailed>
+    ensures cause { HasCause (K.faults sink.old) (K.faults sink.new) result }
+    ensures written { WritesText (K.written sink.old) (K.written sink.new) result (name.now ++ codes "/") }
+{
+    write_all(sink, name)?;
+    write_all(sink, b"/")
+}
+
 // Writes a name behind the names on the way to its instance, with `/` between.
 pub(crate) fn write_path<K: Sink>(
     names: &Names,
@@ -61,8 +71,7 @@ pub(crate) fn write_path<K: Sink>(
     let mut way = way_up(instances, instance);
     while let Some(card) = way.pop() {
         let part = &parts[card as usize];
-        write_all(sink, names.get(part.name as usize))?;
-        write_all(sink, b"/")?;
+        write_step(sink, names.get(part.name as usize))?;
     }
     write_all(sink, names.get(name as usize))
 }

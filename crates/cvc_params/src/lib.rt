@@ -9,9 +9,11 @@ mod pair_index;
 mod pair_lists;
 mod params;
 mod plain;
+mod same;
 
 pub use level::Level;
 pub use pair_index::{PairIndex, PairIndexes};
 pub use pair_lists::{CellLists, PairLists, lists_of};
 pub use params::{Lists, Sight};
 pub use plain::plain_params;
+pub use same::are_same_params;

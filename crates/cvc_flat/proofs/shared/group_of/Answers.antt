@@ -8,7 +8,7 @@ use Rattle.cvc_flat.proofs.shared.group_of.Goals as goal
 pub returns-in-Some-clause-looped : goal.returns-in-Some-clause-looped
 returns-in-Some-clause-looped c =
     let s = c.args.sight.now in
-    let groups = c.args.groups.now.items in
+    let groups = c.args.groups.now in
     let pairs = c.args.pairs.now in
     no_loop s.netlist.now (instance_of s.levels.items) groups pairs c.args.model c.in-Some.group
     (subst (λ (o : Option ℕ). IfSome o (IsGroupOf groups pairs c.args.model)) c.in-Some.is c.requires.shared)
@@ -16,7 +16,7 @@ returns-in-Some-clause-looped c =
 pub returns-in-Some-clause-group : goal.returns-in-Some-clause-group
 returns-in-Some-clause-group c =
     let s = c.args.sight.now in
-    let groups = c.args.groups.now.items in
+    let groups = c.args.groups.now in
     let pairs = c.args.pairs.now in
     takes_known s.netlist.now (instance_of s.levels.items) groups pairs c.args.model c.in-Some.group
     (subst (λ (o : Option ℕ). IfSome o (IsGroupOf groups pairs c.args.model)) c.in-Some.is c.requires.shared)

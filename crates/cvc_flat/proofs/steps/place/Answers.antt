@@ -88,8 +88,8 @@ returns-clause-added c = λ rows host.
     let within = instance_of c.args.sight.now.levels.items in
     let shown = pins_shown n p rows within c.args.instance c.args.ports.now host.inside host.path host.has card.nets device.pins.items c.requires.pins in
     let pins = c.in_ok-pins.ensures p rows (host_rows n p rows c.args.made.now within c.args.instance c.args.ports.now host) shown.1 in
-    let takes = subst (λ (m : Netlist). TakesGroup m within card.pairs device.model c.args.made.now.groups.items c.group_of.new.groups.items c.in-Some.group) c.requires.same
-    (subst (λ (o : Option ℕ). IfSome o (TakesGroup c.args.sight.now.netlist.now within card.pairs device.model c.args.made.now.groups.items c.group_of.new.groups.items)) c.in-Some.is c.in_ok-found.ensures.group) in
+    let takes = subst (λ (m : Netlist). TakesGroup m within card.pairs device.model c.args.made.now.groups c.group_of.new.groups c.in-Some.group) c.requires.same
+    (subst (λ (o : Option ℕ). IfSome o (TakesGroup c.args.sight.now.netlist.now within card.pairs device.model c.args.made.now.groups c.group_of.new.groups)) c.in-Some.is c.in_ok-found.ensures.group) in
     device_added n p rows c.args.made.now record { nets = c.pins_of.new.nets; devices = c.push.new.self; groups = c.group_of.new.groups } within card c.args.number device
     record { instance = c.args.instance; card = c.args.number; group = c.in-Some.group; pins = c.in_ok-pins.pins }
     _ shown.0 c.requires.device c.requires.formed host.sound host.inside host.path pins refl takes c.in_ok-push.ensures.items
@@ -97,9 +97,9 @@ returns-clause-added c = λ rows host.
 
 pub returns-clause-shared : goal.returns-clause-shared
 returns-clause-shared c =
-    by_card c.args.plan.now.cards.names c.group_of.new.groups.items c.args.card.now _ c.args.device.now.model c.group_of.new.shared c.requires.device.kept
-    (subst (λ (o : Option ℕ). IfSome o (λ g. IfSome c.group_of.new.shared (IsGroupOf c.group_of.new.groups.items c.args.card.now.pairs c.args.device.now.model))) c.in-Some.is c.in_ok-found.ensures.shared)
+    by_card c.args.plan.now.cards.names c.group_of.new.groups c.args.card.now _ c.args.device.now.model c.group_of.new.shared c.requires.device.kept
+    (subst (λ (o : Option ℕ). IfSome o (λ g. IfSome c.group_of.new.shared (IsGroupOf c.group_of.new.groups c.args.card.now.pairs c.args.device.now.model))) c.in-Some.is c.in_ok-found.ensures.shared)
 
 pub group_of-requires-clause-shared : goal.group_of-requires-clause-shared
 group_of-requires-clause-shared c =
-    by_number c.args.plan.now.cards.names c.args.made.now.groups.items c.args.card.now _ c.args.device.now.model c.args.shared.now c.requires.plan.apart c.requires.device.kept c.requires.shared
+    by_number c.args.plan.now.cards.names c.args.made.now.groups c.args.card.now _ c.args.device.now.model c.args.shared.now c.requires.plan.apart c.requires.device.kept c.requires.shared

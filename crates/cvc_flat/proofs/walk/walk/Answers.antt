@@ -38,12 +38,12 @@ visits-init c =
     let first : Mark = record { instance = 0; cell = c.args.source.now.top; plan = p.top; first = 0; next = 0 } in
     record {
       plan = c.requires.plan;
-      state = state_begins n p record { nets = c.args.nets; devices = c.new.result; groups = c.new-2.result } record { instance = 0; cell = c.args.source.now.top; plan = p.top; first = 0; next = 0 } c.requires.plan c.requires.top refl refl refl c.new.ensures.items c.new-2.ensures.items c.requires.nets c.requires.within c.requires.room
+      state = state_begins n p record { nets = c.args.nets; devices = c.new.result; groups = c.new-2.result } record { instance = 0; cell = c.args.source.now.top; plan = p.top; first = 0; next = 0 } c.requires.plan c.requires.top refl refl refl c.new.ensures.items c.new-2.ensures c.requires.nets c.requires.within c.requires.room
           c.new-instances.result.items c.args.start.levels.items c.new-above.result.items c.new-instances.ensures.items c.requires.outside c.new-above.ensures.items;
       ports = ports_begin n p c.requires.plan c.new-instances.result.items c.args.start.levels.items c.in_ok-ports.ports.items first c.new-above.result.items c.new-instances.ensures.items c.requires.outside c.new-above.ensures.items refl
           (c.in_ok-ports.ensures ∙ ap (λ (os : List OpeningPlan). map row_of_opening (drop p.globals os)) c.as_slice-openings.ensures.value);
       sees = record { sight = c.requires.sight; same = c.requires.same; listed = c.requires.lists };
-      shared = none_shared p.cards.names c.new-2.result.items (all_cells n) c.in_ok-shared.shared.items c.in_ok-shared.ensures;
+      shared = none_shared p.cards.names c.new-2.result (all_cells n) c.in_ok-shared.shared.items c.in_ok-shared.ensures;
     }
 
 pub returns-in_default-clause-refused : goal.returns-in_default-clause-refused
@@ -206,7 +206,7 @@ index_mut-groups-requires c =
     let mark = c.visits.mark in
     let above = c.visits.above.items in
     let s = state_grows n c.visits.plan p c.in_ok-fresh.ensures.grows c.visits.invariant.plan c.in_ok-fresh.ensures.plan rows made levels mark above c.visits.invariant.state in
-    omega (arith, shared_inside n p rows made levels mark above s p.cards.names made.groups.items c.visits.shared.items (shared_grow c.visits.plan.cards.names p.cards.names made.groups.items (all_cells n) c.visits.shared.items c.in_ok-fresh.ensures.grows.cards.names c.visits.invariant.shared))
+    omega (arith, shared_inside n p rows made levels mark above s p.cards.names made.groups c.visits.shared.items (shared_grow c.visits.plan.cards.names p.cards.names made.groups (all_cells n) c.visits.shared.items c.in_ok-fresh.ensures.grows.cards.names c.visits.invariant.shared))
 
 pub index_mut-requires : goal.index_mut-requires
 index_mut-requires c =
@@ -219,7 +219,7 @@ index_mut-requires c =
     let above = c.visits.above.items in
     let s = state_grows n c.visits.plan p c.in_ok-fresh.ensures.grows c.visits.invariant.plan c.in_ok-fresh.ensures.plan rows made levels mark above c.visits.invariant.state in
     let inside : mark.next < length mark.cell.now.items = omega (arith, c.len.ensures, c.if-mark-len.false) in
-    omega (arith, items_shared n p rows made levels mark above s p.cards.names made.groups.items c.visits.shared.items (shared_grow c.visits.plan.cards.names p.cards.names made.groups.items (all_cells n) c.visits.shared.items c.in_ok-fresh.ensures.grows.cards.names c.visits.invariant.shared) c.index_mut-groups.result.now c.index_mut-groups.ensures.value, inside)
+    omega (arith, items_shared n p rows made levels mark above s p.cards.names made.groups c.visits.shared.items (shared_grow c.visits.plan.cards.names p.cards.names made.groups (all_cells n) c.visits.shared.items c.in_ok-fresh.ensures.grows.cards.names c.visits.invariant.shared) c.index_mut-groups.result.now c.index_mut-groups.ensures.value, inside)
 
 pub place-requires-clause-shared : goal.place-requires-clause-shared
 place-requires-clause-shared c =
@@ -236,7 +236,7 @@ place-requires-clause-shared c =
     let back : mark.next + 1 - 1 ≡ mark.next = omega arith in
     let row = c.index_mut-groups.result.now in
     let group = c.index_mut.result.now in
-    card_shared n p rows made levels mark above s p.cards.names made.groups.items c.visits.shared.items (shared_grow c.visits.plan.cards.names p.cards.names made.groups.items (all_cells n) c.visits.shared.items c.in_ok-fresh.ensures.grows.cards.names c.visits.invariant.shared) row c.in-Device-Device.card group group c.index_mut-groups.ensures.value inside is
+    card_shared n p rows made levels mark above s p.cards.names made.groups c.visits.shared.items (shared_grow c.visits.plan.cards.names p.cards.names made.groups (all_cells n) c.visits.shared.items c.in_ok-fresh.ensures.grows.cards.names c.visits.invariant.shared) row c.in-Device-Device.card group group c.index_mut-groups.ensures.value inside is
     (c.index_mut.ensures.value ∙ ap (λ j. get_or row.items.items j group) back)
 
 pub visits-preserved-in-Device-Device : goal.visits-preserved-in-Device-Device
@@ -266,8 +266,8 @@ visits-preserved-in-Device-Device c =
           (state_device n p rows made levels mark above s inside c.place.new.made card is (placed.refused rows host) added);
       ports = subst (λ ls. ArePorts n p rows (reverse ls) ports (stepped mark) (reverse above)) (sym placed.sees.levels) (ports_step n p rows (reverse levels) ports mark (reverse above) h);
       sees = sees_on n c.args.source.now.lists.now.cells.items c.visits.sight c.place.new.sight c.visits.invariant.sees placed.sight (placed.sees.netlist, placed.sees.indexes);
-      shared = shared_on n p rows made levels mark above s p.cards.names made.groups.items c.place.new.made.groups.items added.more c.visits.shared.items row _ card c.place.new.shared
-          added.groups (shared_grow c.visits.plan.cards.names p.cards.names made.groups.items (all_cells n) c.visits.shared.items c.in_ok-fresh.ensures.grows.cards.names c.visits.invariant.shared) c.index_mut-groups.ensures.value is placed.shared (ap (λ j. set row.items.items j c.place.new.shared) back);
+      shared = shared_on n p rows made levels mark above s p.cards.names made.groups c.place.new.made.groups added.more c.visits.shared.items row _ card c.place.new.shared
+          added.groups (shared_grow c.visits.plan.cards.names p.cards.names made.groups (all_cells n) c.visits.shared.items c.in_ok-fresh.ensures.grows.cards.names c.visits.invariant.shared) c.index_mut-groups.ensures.value is placed.shared (ap (λ j. set row.items.items j c.place.new.shared) back);
     }
 
 pub visits-smaller-in-Device-Device : goal.visits-smaller-in-Device-Device
@@ -355,7 +355,7 @@ visits-preserved c =
       state = w.0;
       ports = w.1;
       sees = sees_on n c.args.source.now.lists.now.cells.items c.visits.sight c.enter-in-Inst-Inst.new.self c.visits.invariant.sees c.in_ok-enter-in-Inst-Inst.ensures.sight c.in_ok-enter-in-Inst-Inst.ensures.same;
-      shared = (shared_grow c.visits.plan.cards.names p.cards.names made.groups.items (all_cells n) c.visits.shared.items c.in_ok-fresh.ensures.grows.cards.names c.visits.invariant.shared);
+      shared = (shared_grow c.visits.plan.cards.names p.cards.names made.groups (all_cells n) c.visits.shared.items c.in_ok-fresh.ensures.grows.cards.names c.visits.invariant.shared);
     }
 
 pub unreachable-requires : goal.unreachable-requires

@@ -14,7 +14,7 @@ invariant-visits l = record {
   state : IsState l.source.netlist.now l.plan l.instances.items l.made l.sight.levels.items l.mark l.above.items;
   ports : ArePorts l.source.netlist.now l.plan l.instances.items (reverse l.sight.levels.items) l.ports.items l.mark (reverse l.above.items);
   sees : Sees l.source.netlist.now l.source.lists.now.cells.items l.sight;
-  shared : AreShared l.plan.cards.names l.made.groups.items (all_cells l.source.netlist.now) l.shared.items;
+  shared : AreShared l.plan.cards.names l.made.groups (all_cells l.source.netlist.now) l.shared.items;
 }
 
 abbrev pub decreases-visits : goal.decreases-visits

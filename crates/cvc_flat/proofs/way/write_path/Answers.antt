@@ -9,7 +9,7 @@ use Rattle.cvc_plan.specs.Parts.{text}
 use Rattle.cvc_plan.proofs.Lists.{all_front, all_last, empty_of}
 use Rattle.cvc_flat.specs.Tables.{names_on, way_at, ways_of}
 use Rattle.cvc_flat.proofs.Ways.{all_on_way}
-use Rattle.cvc_flat.proofs.Writing.{known_nil, part_behind, path_last, twice_known, writes_last}
+use Rattle.cvc_flat.proofs.Writing.{known_nil, next_step, part_behind, twice_known, writes_last}
 use Rattle.cvc_flat.proofs.way.write_path.Goals as goal
 
 pub loop-card-init : goal.loop-card-init
@@ -28,19 +28,18 @@ get-requires g c =
     let inside : c.in-Some.card < length c.args.parts.now = all_last (λ k. k < length c.args.parts.now) c.loop-card.way.items c.pop.new.self.items c.in-Some.card c.in-Some.ensures.items c.loop-card.invariant.inside in
     subst (λ (p : InstancePart). p.name < length c.args.names.now) (sym c.index-parts-card.is) (c.requires.parts c.in-Some.card part inside)
 
-pub returns-in_err-write_all-clause-written : goal.returns-in_err-write_all-clause-written
-returns-in_err-write_all-clause-written g c =
+pub returns-in_err-write_step-clause-written : goal.returns-in_err-write_step-clause-written
+returns-in_err-write_step-clause-written g c =
     let p = err_from_is_err_and c.from_residual.result c.from_residual.ensures.1 in
     let names = c.args.names.now in
     let parts = c.args.parts.now in
     let name : List ℕ = text names c.args.name in
     let inside : c.in-Some.card < length parts = all_last (λ k. k < length parts) c.loop-card.way.items c.pop.new.self.items c.in-Some.card c.in-Some.ensures.items c.loop-card.invariant.inside in
-    let more : List ℕ = codes "/" ++ printed (names_on names parts c.pop.new.self.items) name in
+    let left : List ℕ = printed (names_on names parts c.pop.new.self.items) name in
     let w = c.loop-card.invariant.written in
-    let split : printed (names_on names parts c.loop-card.way.items) name ≡ c.get.result.now ++ more =
-    ap (λ way. printed (names_on names parts way) name) c.in-Some.ensures.items ∙ path_last names parts c.pop.new.self.items c.in-Some.card c.index-parts-card.result name inside c.index-parts-card.is ∙ ap (λ (l : List ℕ). l ++ more) (sym c.get.ensures) in
-    rw p.1 (part_behind w.0 c.get.result.now more (printed (names_on names parts (way_at (ways_of c.args.instances.now) c.args.instance)) name) (g.K.Sink.written c.args.sink.now) (g.K.Sink.written c.loop-card.sink) (g.K.Sink.written c.write_all.new.sink)
-    w.2 (ap (λ (l : List ℕ). w.0 ++ l) (sym split) ∙ w.1) c.in_err-write_all.ensures.written)
+    let split = next_step names parts c.loop-card.way.items c.pop.new.self.items c.in-Some.card c.index-parts-card.result name c.get.result.now c.in-Some.ensures.items inside c.index-parts-card.is c.get.ensures in
+    rw p.1 (part_behind w.0 (c.get.result.now ++ codes "/") left (printed (names_on names parts (way_at (ways_of c.args.instances.now) c.args.instance)) name) (g.K.Sink.written c.args.sink.now) (g.K.Sink.written c.loop-card.sink) (g.K.Sink.written c.write_step.new.sink)
+    w.2 (ap (λ (l : List ℕ). w.0 ++ l) (sym split) ∙ w.1) c.in_err-write_step.ensures.written)
 
 pub loop-card-preserved : goal.loop-card-preserved
 loop-card-preserved g c =
@@ -48,36 +47,19 @@ loop-card-preserved g c =
     let parts = c.args.parts.now in
     let name : List ℕ = text names c.args.name in
     let inside : c.in-Some.card < length parts = all_last (λ k. k < length parts) c.loop-card.way.items c.pop.new.self.items c.in-Some.card c.in-Some.ensures.items c.loop-card.invariant.inside in
+    let step : List ℕ = c.get.result.now ++ codes "/" in
     let left : List ℕ = printed (names_on names parts c.pop.new.self.items) name in
     let w = c.loop-card.invariant.written in
-    let split : printed (names_on names parts c.loop-card.way.items) name ≡ c.get.result.now ++ (codes "/" ++ left) =
-    ap (λ way. printed (names_on names parts way) name) c.in-Some.ensures.items ∙ path_last names parts c.pop.new.self.items c.in-Some.card c.index-parts-card.result name inside c.index-parts-card.is ∙ ap (λ (l : List ℕ). l ++ (codes "/" ++ left)) (sym c.get.ensures) in
+    let split = next_step names parts c.loop-card.way.items c.pop.new.self.items c.in-Some.card c.index-parts-card.result name c.get.result.now c.in-Some.ensures.items inside c.index-parts-card.is c.get.ensures in
     record {
-      counts = omega (arith, c.loop-card.invariant.counts, c.in_ok-write_all.ensures.cause.later, c.in_ok-write_all-2.ensures.cause.later);
+      counts = omega (arith, c.loop-card.invariant.counts, c.in_ok-write_step.ensures.cause.later);
       inside = all_front (λ k. k < length parts) c.loop-card.way.items c.pop.new.self.items c.in-Some.card c.in-Some.ensures.items c.loop-card.invariant.inside;
       written = (
-        (w.0 ++ c.get.result.now) ++ codes "/",
-        append_assoc (w.0 ++ c.get.result.now) (codes "/") left ∙ append_assoc w.0 c.get.result.now (codes "/" ++ left) ∙ ap (λ (l : List ℕ). w.0 ++ l) (sym split) ∙ w.1,
-        c.in_ok-write_all-2.ensures.written
-            ∙ ap (λ (o : Option (List ℕ)). append_known o (codes "/")) (c.in_ok-write_all.ensures.written ∙ ap (λ (o : Option (List ℕ)). append_known o c.get.result.now) w.2 ∙ twice_known (g.K.Sink.written c.args.sink.now) w.0 c.get.result.now)
-            ∙ twice_known (g.K.Sink.written c.args.sink.now) (w.0 ++ c.get.result.now) (codes "/"),
+        w.0 ++ step,
+        append_assoc w.0 step left ∙ ap (λ (l : List ℕ). w.0 ++ l) (sym split) ∙ w.1,
+        c.in_ok-write_step.ensures.written ∙ ap (λ (o : Option (List ℕ)). append_known o step) w.2 ∙ twice_known (g.K.Sink.written c.args.sink.now) w.0 step,
       );
     }
-
-pub returns-in_err-write_all-2-clause-written : goal.returns-in_err-write_all-2-clause-written
-returns-in_err-write_all-2-clause-written g c =
-    let p = err_from_is_err_and c.from_residual-in_err-write_all-2.result c.from_residual-in_err-write_all-2.ensures.1 in
-    let names = c.args.names.now in
-    let parts = c.args.parts.now in
-    let name : List ℕ = text names c.args.name in
-    let inside : c.in-Some.card < length parts = all_last (λ k. k < length parts) c.loop-card.way.items c.pop.new.self.items c.in-Some.card c.in-Some.ensures.items c.loop-card.invariant.inside in
-    let left : List ℕ = printed (names_on names parts c.pop.new.self.items) name in
-    let w = c.loop-card.invariant.written in
-    let split : printed (names_on names parts c.loop-card.way.items) name ≡ c.get.result.now ++ (codes "/" ++ left) =
-    ap (λ way. printed (names_on names parts way) name) c.in-Some.ensures.items ∙ path_last names parts c.pop.new.self.items c.in-Some.card c.index-parts-card.result name inside c.index-parts-card.is ∙ ap (λ (l : List ℕ). l ++ (codes "/" ++ left)) (sym c.get.ensures) in
-    rw p.1 (part_behind (w.0 ++ c.get.result.now) (codes "/") left (printed (names_on names parts (way_at (ways_of c.args.instances.now) c.args.instance)) name) (g.K.Sink.written c.args.sink.now) (g.K.Sink.written c.write_all.new.sink) (g.K.Sink.written c.write_all-in-Some.new.sink)
-    (c.in_ok-write_all.ensures.written ∙ ap (λ (o : Option (List ℕ)). append_known o c.get.result.now) w.2 ∙ twice_known (g.K.Sink.written c.args.sink.now) w.0 c.get.result.now)
-    (append_assoc w.0 c.get.result.now (codes "/" ++ left) ∙ ap (λ (l : List ℕ). w.0 ++ l) (sym split) ∙ w.1) c.in_err-write_all-2.ensures.written)
 
 pub returns-clause-written : goal.returns-clause-written
 returns-clause-written g c =
@@ -86,5 +68,5 @@ returns-clause-written g c =
     let name : List ℕ = text names c.args.name in
     let w = c.loop-card.invariant.written in
     let none : c.loop-card.way.items ≡ [] = empty_of c.loop-card.way.items (λ h. false≢true (c.in_default.ensures.variant.1 h)) in
-    writes_last c.write_all-2.result w.0 c.get-2.result.now (printed (names_on names parts (way_at (ways_of c.args.instances.now) c.args.instance)) name) (g.K.Sink.written c.args.sink.now) (g.K.Sink.written c.loop-card.sink) (g.K.Sink.written c.write_all-2.new.sink)
-    w.2 (ap (λ (l : List ℕ). w.0 ++ l) (c.get-2.ensures ∙ ap (λ way. printed (names_on names parts way) name) (sym none)) ∙ w.1) c.write_all-2.ensures.written
+    writes_last c.write_all.result w.0 c.get-2.result.now (printed (names_on names parts (way_at (ways_of c.args.instances.now) c.args.instance)) name) (g.K.Sink.written c.args.sink.now) (g.K.Sink.written c.loop-card.sink) (g.K.Sink.written c.write_all.new.sink)
+    w.2 (ap (λ (l : List ℕ). w.0 ++ l) (c.get-2.ensures ∙ ap (λ way. printed (names_on names parts way) name) (sym none)) ∙ w.1) c.write_all.ensures.written
