@@ -17,7 +17,8 @@ use Rattle.cvc_base.specs.declared.stop.Stop.TheVariants as stops
 use Rattle.cvc_card.specs.Forms.{form_of}
 use Rattle.cvc_card.specs.Items.{Item, items_of}
 use Rattle.cvc_card.specs.Parts.{CardParts, parts_of}
-use Rattle.cvc_card.specs.Card.{◌>>=◌, are_bad_pins, card_from, card_of, card_of_texts, card_with, cell_of, has_twice, instance_of, nets_of, ports_of, present}
+use Rattle.cvc_base.specs.Order.{◌>>=◌}
+use Rattle.cvc_card.specs.Card.{are_bad_pins, card_from, card_of, card_of_texts, card_with, cell_of, has_twice, instance_of, nets_of, ports_of, present}
 use Rattle.cvc_card.specs.Reading.{GivesCard, Stops, bytes_of, name_of, pair_of, pairs_held, parts_held, texts_held, texts_of}
 use Rattle.cvc_card.proofs.Fronts.{first_and_rest, rest_of}
 

@@ -14,7 +14,8 @@ use Rattle.cvc_card.specs.declared.form.Form.TheVariants as forms
 use Rattle.cvc_card.specs.Forms.{form_of}
 use Rattle.cvc_card.specs.Items.{items_of}
 use Rattle.cvc_card.specs.Parts.{CardParts, or_else, parts_of}
-use Rattle.cvc_card.specs.Card.{◌>>=◌, are_bad_pins, card_from, card_of, card_of_texts, card_with, cell_card, cell_of, device_of, device_with, has_twice, instance_of, model_among, net_count, nets_of, ports_of, present, value_pairs}
+use Rattle.cvc_base.specs.Order.{◌>>=◌}
+use Rattle.cvc_card.specs.Card.{are_bad_pins, card_from, card_of, card_of_texts, card_with, cell_card, cell_of, device_of, device_with, has_twice, instance_of, model_among, net_count, nets_of, ports_of, present, value_pairs}
 use Rattle.cvc_card.specs.Formed.{ConnectsOnce, IsFormed}
 
 module _ (line : ℕ) where

@@ -7,6 +7,7 @@ use Rattle.std.specs.List.{filter, find, list_any, before_first, after_first}
 use Rattle.cvc_base.specs.declared.cause.Cause.{Cause}
 use Rattle.cvc_base.specs.declared.cause.Cause.TheVariants.{UnknownCard, BadPins, ShortCard}
 use Rattle.cvc_base.specs.declared.line.Line.{Line}
+use Rattle.cvc_base.specs.Order.{◌>>=◌}
 use Rattle.cvc_base.specs.declared.param.Pair.{Pair}
 use Rattle.cvc_card.specs.declared.card.Card.{Card}
 use Rattle.cvc_card.specs.declared.card.Card.TheVariants as cards
@@ -20,11 +21,6 @@ use Rattle.cvc_card.specs.Words.{is_slash, is_number}
 use Rattle.cvc_card.specs.Forms.{form_of}
 use Rattle.cvc_card.specs.Items.{items_of}
 use Rattle.cvc_card.specs.Parts.{CardParts, parts_of, or_else, last_of}
-
-infixl 10 ◌>>=◌
-abbrev pub ◌>>=◌ : {A B : Type 0} → Result A Cause → (A → Result B Cause) → Result B Cause
-(Ok x) >>= f = f x
-(Err e) >>= f = Err e
 
 abbrev pub first_of : {X : Type 0} → List X → Option X
 first_of [] = None

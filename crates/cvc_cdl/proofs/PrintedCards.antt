@@ -21,7 +21,8 @@ use Rattle.cvc_card.specs.Words.{is_slash}
 use Rattle.cvc_card.specs.Forms.{form_of}
 use Rattle.cvc_card.specs.Items.{Item, Alone, items_of}
 use Rattle.cvc_card.specs.Parts.{CardParts, parts_of}
-use Rattle.cvc_card.specs.Card.{◌>>=◌, before_colon, card_from, card_of, card_of_texts, card_with, cell_of, device_of, first_of, globals_of, instance_of, net_count, nets_of, value_pairs, without_last}
+use Rattle.cvc_base.specs.Order.{◌>>=◌}
+use Rattle.cvc_card.specs.Card.{before_colon, card_from, card_of, card_of_texts, card_with, cell_of, device_of, first_of, globals_of, instance_of, net_count, nets_of, value_pairs, without_last}
 use Rattle.cvc_card.specs.Parts.{last_of}
 use Rattle.cvc_card.specs.Formed.{ConnectsOnce}
 use Rattle.cvc_card.proofs.Assembling.{instance_done}

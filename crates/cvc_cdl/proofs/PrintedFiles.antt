@@ -12,12 +12,13 @@ use Rattle.cvc_cdl.specs.Netlist.{netlist_of}
 use Rattle.cvc_cdl.specs.Building.{building_fault, fault_of, first_fault, or_else}
 use Rattle.cvc_cdl.specs.Ending.{ending_fault, unless_fault}
 use Rattle.cvc_cdl.specs.Builder.{entry_of}
-use Rattle.cvc_cdl.specs.File.{ended, entries_from, entries_of, entry_at, entry_with, file_of, then_lexical, then_with}
+use Rattle.cvc_cdl.specs.File.{ended, entries_from, entries_of, entry_at, entry_with, file_of, then_lexical}
 use Rattle.cvc_cdl.specs.Text.{text_of}
 use Rattle.cvc_cdl.specs.Printed.{at_line, numbered, printed_cards}
 use Rattle.cvc_cdl.specs.Pieces.{ReadAsLines, ReadsAsLine}
 use Rattle.cvc_cdl.proofs.Printable.{card_line, IsPrintableCard}
 use Rattle.cvc_cdl.proofs.PrintedCards.{printed_card}
+use Rattle.cvc_base.specs.Order.{◌>>=◌}
 
 none_parts : (o rest : Option Fault) → or_else o rest ≡ None → (o ≡ None) × (rest ≡ None)
 none_parts None rest h = (refl, h)
@@ -38,7 +39,7 @@ entries_back number (card ∷ more) (line ∷ lines) earlier h reads none =
     let e = entry_of (at_line number card) number in
     let rest = numbered (number + 1) more in
     let parts = none_parts (fault_of earlier e) (first_fault (earlier ++ e ∷ []) rest) none in
-    ap (λ r. then_with r (λ x. entries_from (earlier ++ x ∷ []) lines)) (entry_back number card line earlier (All-head IsPrintableCard card more h) reads.0 parts.0)
+    ap (λ r. ◌>>=◌ r (λ x. entries_from (earlier ++ x ∷ []) lines)) (entry_back number card line earlier (All-head IsPrintableCard card more h) reads.0 parts.0)
     ∙ entries_back (number + 1) more lines (earlier ++ e ∷ []) (All-tail IsPrintableCard card more h) reads.1 parts.1
     ∙ ap (λ es. Ok es) (append_assoc earlier (e ∷ []) rest)
 
@@ -48,5 +49,5 @@ pub file_back : (n : Netlist) (top : Option (List ℕ)) → All IsPrintableCard 
 unfolding file_of entries_of
 file_back n top h none reads building ending =
     let entries = numbered 1 (printed_cards n) in
-    ap₂ (λ r o. then_with (then_with r (then_lexical o)) (ended top)) (entries_back 1 (printed_cards n) (closed_at_end NetlistFile (text_of n)) [] h reads building) none
+    ap₂ (λ r o. ◌>>=◌ (◌>>=◌ r (then_lexical o)) (ended top)) (entries_back 1 (printed_cards n) (closed_at_end NetlistFile (text_of n)) [] h reads building) none
     ∙ ap (λ o. unless_fault o (netlist_of entries top)) ending

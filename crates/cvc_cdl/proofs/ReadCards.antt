@@ -12,7 +12,8 @@ use Rattle.cvc_card.specs.Words.{is_keyword}
 use Rattle.cvc_card.specs.Forms.{form_of}
 use Rattle.cvc_card.specs.Items.{items_of}
 use Rattle.cvc_card.specs.Parts.{CardParts, parts_of}
-use Rattle.cvc_card.specs.Card.{◌>>=◌, card_from, card_of, card_of_texts, card_with, cell_card}
+use Rattle.cvc_base.specs.Order.{◌>>=◌}
+use Rattle.cvc_card.specs.Card.{card_from, card_of, card_of_texts, card_with, cell_card}
 use Rattle.cvc_card.proofs.FormNames.{CardForm, device_form, instance_form, cell_form, ends_form, global_form, params_form, by_form}
 use Rattle.cvc_cdl.specs.Pieces.{IsTokenText}
 use Rattle.cvc_cdl.proofs.Printable.{IsPlainText, IsParameter, IsReadCard}

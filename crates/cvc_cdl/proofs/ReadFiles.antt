@@ -15,13 +15,14 @@ use Rattle.cvc_cdl.specs.Netlist.{netlist_of}
 use Rattle.cvc_cdl.specs.Building.{building_fault, fault_of, first_fault, or_else}
 use Rattle.cvc_cdl.specs.Ending.{ending_fault, unless_fault}
 use Rattle.cvc_cdl.specs.Builder.{IsFormedEntry, entry_of}
-use Rattle.cvc_cdl.specs.File.{ended, entries_from, entries_of, entry_at, entry_with, file_of, then_lexical, then_with}
+use Rattle.cvc_cdl.specs.File.{ended, entries_from, entries_of, entry_at, entry_with, file_of, then_lexical}
 use Rattle.cvc_cdl.specs.Alike.{IsPrintable}
 use Rattle.cvc_cdl.specs.Printed.{printed_cards}
 use Rattle.cvc_cdl.proofs.Printable.{IsReadCard, IsPrintableCard}
 use Rattle.cvc_cdl.proofs.ReadLines.{HasCardTokens, lines_read}
 use Rattle.cvc_cdl.proofs.ReadCards.{card_read}
 use Rattle.cvc_cdl.proofs.ReadNetlists.{IsReadEntry, netlist_read, printable}
+use Rattle.cvc_base.specs.Order.{◌>>=◌}
 
 -- ## One more card without a fault
 
@@ -71,7 +72,7 @@ card_good earlier line h (Ok card) is =
     let e : Entry = entry_of card line.first in
     judged_good earlier e (fault_of earlier e) refl (card_read line card h is, formed line card is)
 
-behind_good : (earlier : List Entry) (r : Result Entry Fault) (f : Entry → Result (List Entry) Fault) → IsEntryAnswer earlier r → ((e : Entry) → IsKnown e → fault_of earlier e ≡ None → AreKnownAnswer (f e)) → AreKnownAnswer (then_with r f)
+behind_good : (earlier : List Entry) (r : Result Entry Fault) (f : Entry → Result (List Entry) Fault) → IsEntryAnswer earlier r → ((e : Entry) → IsKnown e → fault_of earlier e ≡ None → AreKnownAnswer (f e)) → AreKnownAnswer (◌>>=◌ r f)
 behind_good earlier (Err fault) f h k = tt
 behind_good earlier (Ok e) f h k = k e h.0 h.1
 
@@ -110,7 +111,7 @@ module _ (top : Option (List ℕ)) where
   ended_good entries (Some fault) is h = tt
 
   abbrev answer : Option Fault → Result (List Entry) Fault → Result Netlist Fault
-  answer o r = then_with (then_with r (then_lexical o)) (ended top)
+  answer o r = ◌>>=◌ (◌>>=◌ r (then_lexical o)) (ended top)
 
   faultless_good : (r : Result (List Entry) Fault) → AreKnownAnswer r → IsReadAnswer (answer None r)
   faultless_good (Err fault) h = tt

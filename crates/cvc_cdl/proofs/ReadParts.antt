@@ -16,7 +16,8 @@ use Rattle.cvc_card.specs.declared.card.Ports.TheVariants.{ByOrder, ByName}
 use Rattle.cvc_card.specs.Words.{is_dollar, is_expression, is_number, is_slash}
 use Rattle.cvc_card.specs.Forms.{form_of}
 use Rattle.cvc_card.specs.Parts.{CardParts, is_model_pair, last_of, or_else}
-use Rattle.cvc_card.specs.Card.{◌>>=◌, are_bad_pins, before_colon, cell_of, device_of, device_with, first_of, globals_of, has_twice, instance_of, is_word, letter_name, model_among, net_count, nets_of, ports_of, present, value_pairs, without_last}
+use Rattle.cvc_base.specs.Order.{◌>>=◌}
+use Rattle.cvc_card.specs.Card.{are_bad_pins, before_colon, cell_of, device_of, device_with, first_of, globals_of, has_twice, instance_of, is_word, letter_name, model_among, net_count, nets_of, ports_of, present, value_pairs, without_last}
 use Rattle.cvc_card.specs.Formed.{ConnectsOnce}
 use Rattle.cvc_card.proofs.Plainness.{plain-dollar}
 use Rattle.cvc_card.proofs.FormNames.{device_form, instance_form, global_form}

@@ -13,6 +13,7 @@ use Rattle.cvc_cdl.specs.Levels.{Entry}
 use Rattle.cvc_cdl.specs.Netlist.{netlist_of}
 use Rattle.cvc_cdl.specs.Building.{fault_at, fault_of}
 use Rattle.cvc_cdl.specs.Ending.{ending_fault, unless_fault}
+use Rattle.cvc_base.specs.Order.{◌>>=◌}
 
 abbrev pub judged_entry : List Entry → Entry → Result Entry Fault
 judged_entry earlier e = unless_fault (fault_of earlier e) e
@@ -25,14 +26,12 @@ entry_with earlier line (Ok card) = judged_entry earlier record { card = card; l
 abbrev pub entry_at : List Entry → Line → Result Entry Fault
 entry_at earlier line = entry_with earlier line.first (card_of line)
 
-abbrev pub then_with : {A B : Type 0} → Result A Fault → (A → Result B Fault) → Result B Fault
-then_with (Err fault) next = Err fault
-then_with (Ok x) next = next x
-
 -- the earlier cards and those of the lines, or the first fault of the lines
 unfoldable pub entries_from : List Entry → List Line → Result (List Entry) Fault
 entries_from earlier [] = Ok earlier
-entries_from earlier (line ∷ lines) = then_with (entry_at earlier line) (λ e. entries_from (earlier ++ e ∷ []) lines)
+entries_from earlier (line ∷ lines) = do
+  e ← entry_at earlier line
+  entries_from (earlier ++ e ∷ []) lines
 
 -- a lexical fault comes after the faults of the lines that close before its own
 abbrev pub then_lexical : Option Fault → List Entry → Result (List Entry) Fault
@@ -41,11 +40,11 @@ then_lexical (Some fault) entries = Err fault
 
 -- the cards of a file, or its first fault up to there
 unfoldable pub entries_of : List ℕ → Result (List Entry) Fault
-entries_of bytes = then_with (entries_from [] (closed_at_end NetlistFile bytes)) (then_lexical (lexical NetlistFile bytes))
+entries_of bytes = entries_from [] (closed_at_end NetlistFile bytes) >>= then_lexical (lexical NetlistFile bytes)
 
 abbrev pub ended : Option (List ℕ) → List Entry → Result Netlist Fault
 ended top entries = unless_fault (ending_fault entries top) (netlist_of entries top)
 
 -- the netlist of a file with this top, or the file's first fault
 unfoldable pub file_of : List ℕ → Option (List ℕ) → Result Netlist Fault
-file_of bytes top = then_with (entries_of bytes) (ended top)
+file_of bytes top = entries_of bytes >>= ended top

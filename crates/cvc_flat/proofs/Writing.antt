@@ -10,7 +10,7 @@ use Rattle.cvc_plan.specs.declared.rows.InstancePart.{InstancePart}
 use Rattle.cvc_plan.specs.Nets.{name_of_link}
 use Rattle.cvc_plan.specs.Parts.{link_at, text}
 use Rattle.cvc_plan.proofs.Parts.{link_is}
-use Rattle.cvc_flat.specs.Answers.{WritesPart, WritesText}
+use Rattle.cvc_io.specs.Bytes.{WritesPart, WritesText}
 use Rattle.cvc_flat.specs.Tables.{names_on}
 
 pub twice_known : (before : Option (List ℕ)) (x y : List ℕ) → append_known (append_known before x) y ≡ append_known before (x ++ y)

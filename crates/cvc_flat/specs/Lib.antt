@@ -2,7 +2,6 @@ pub mod Walk
 pub mod Left
 pub mod Flat
 pub mod FindNet
-pub mod Answers
 pub mod Held
 pub mod Tables
 pub mod Hashes

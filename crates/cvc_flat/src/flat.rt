@@ -3,7 +3,7 @@ ghost use Rattle.std.specs.Prelude.{◌≡◌, ◌<◌, ◌≤◌, All, IfSome, 
 ghost use Rattle.std.specs.Option.{option_map};
 ghost use Rattle.cvc_io.specs.Causes.{HasCause};
 ghost use Rattle.cvc_card.specs.Card.{net_count};
-ghost use Rattle.cvc_flat.specs.Answers.{WritesText};
+ghost use Rattle.cvc_io.specs.Bytes.{WritesText};
 ghost use Rattle.cvc_flat.specs.FindNet.{find_net, printed_net};
 ghost use Rattle.cvc_flat.specs.Held.{device, net, IsGroup, printed_device};
 

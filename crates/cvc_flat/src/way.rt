@@ -3,7 +3,7 @@ ghost use Rattle.std.specs.Prelude.{◌≡◌, ◌<◌, ◌≤◌, ◌++◌, All
 ghost use Rattle.cvc_io.specs.Causes.{HasCause};
 ghost use Rattle.cvc_cdl.specs.Instances.{printed};
 ghost use Rattle.cvc_plan.specs.Parts.{text};
-ghost use Rattle.cvc_flat.specs.Answers.{WritesText};
+ghost use Rattle.cvc_io.specs.Bytes.{WritesText};
 ghost use Rattle.cvc_flat.specs.Tables.{IsTree, names_on, way_at, ways_of};
 
 use crate::rows::InstanceRow;

@@ -1,6 +1,6 @@
 -- Files by name, and the one file that stands open. A name that was given bytes twice has the later ones.
 -- Of an open file the name may be untold; its rest, the bytes that are left, is told exactly where the shelf tells its files.
-use Rattle.std.specs.Prelude.{◌≡◌, ℕ, ◌≤◌, List, [], ◌∷◌, take, Option, Some, None, Bool, if◌then◌else◌, Result, MatchOption, MatchResult, IfSome, IsSomeAnd}
+use Rattle.std.specs.Prelude.{◌≡◌, ℕ, ◌≤◌, min, List, [], ◌∷◌, length, take, Option, Some, None, Bool, if◌then◌else◌, Result, MatchOption, MatchResult, IfSome, IsSomeAnd}
 use Rattle.std.specs.Option.{option_map, unwrap_or}
 use Rattle.std.specs.Str.{bytes_eq}
 use Rattle.std.specs.Io.KnownBytes.{prepend_known}
@@ -50,6 +50,10 @@ IsAtEnd s = IfSome s (λ file. IfSome file.rest (λ rest. rest ≡ []))
 -- a read took what it gave, gave nothing only at the end, and took nothing where it failed
 abbrev pub Reads : {E : Type 0} → Option Standing → Option Standing → Result ℕ E → List ℕ → Type 0
 Reads old new result buf = MatchResult result (λ n. Takes old new (take n buf) × (n ≡ 0 → IsAtEnd new)) (λ _. new ≡ old)
+
+-- a read that gave so many bytes filled its room as far as the rest goes
+abbrev pub Fills : Option Standing → ℕ → ℕ → Type 0
+Fills old room n = IfSome old (λ file. IfSome file.rest (λ rest. n ≡ min (length rest) room))
 
 -- how often each name has failed
 abbrev pub Counts : Type 0

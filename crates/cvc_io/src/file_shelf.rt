@@ -1,5 +1,5 @@
 //! The real files as a shelf.
-ghost use Rattle.std.specs.Prelude.{◌≡◌, None};
+ghost use Rattle.std.specs.Prelude.{◌≡◌, ℕ, List, None};
 ghost use Rattle.cvc_io.specs.Files.{Standing};
 ghost use Rattle.std.specs.Option.{option_map};
 
@@ -18,9 +18,10 @@ pub struct FileShelf<'r, R: Files> {
 }
 
 impl<'r, R: Files> FileShelf<'r, R> {
-    /// The files of this runtime. None stands open.
+    /// The files of this runtime. None stands open, and none has failed.
     pub fn new(rt: &'r R) -> FileShelf<'r, R>
-        ensures { ⟦<FileShelf<'r, R> as Shelf>⟧.standing result ≡ None }
+        ensures standing { ⟦<FileShelf<'r, R> as Shelf>⟧.standing result ≡ None }
+        ensures faults { (name : List ℕ) → ⟦<FileShelf<'r, R> as Shelf>⟧.faults result name ≡ 0 }
     {
         FileShelf {
             rt,

@@ -1,5 +1,5 @@
 //! Files that a shelf in memory holds.
-ghost use Rattle.std.specs.Prelude.{◌≡◌, ◌+◌, ◌<◌, ◌≤◌, [], ◌++◌, IfSome, take, drop, length};
+ghost use Rattle.std.specs.Prelude.{◌≡◌, ◌+◌, ◌-◌, ◌<◌, ◌≤◌, [], ◌++◌, IfSome, min, take, drop, length};
 ghost use Rattle.cvc_io.specs.MemFiles.{IsFound, place_of};
 
 use cvc_base::Text;
@@ -36,6 +36,7 @@ pub(crate) fn find(files: &[MemFile], name: &[u8]) -> Option<usize>
 pub(crate) fn copy_from(bytes: &[u8], at: usize, buf: &mut [u8]) -> usize
     requires start { at ≤ length bytes.now }
     requires room { 0 < length buf.old }
+    ensures all { result ≡ min (length bytes.now - at) (length buf.old) }
     ensures bound { result ≤ length buf.new }
     ensures inside { at + result ≤ length bytes.now }
     ensures copied { drop at bytes.now ≡ take result buf.new ++ drop (at + result) bytes.now }

@@ -1,9 +1,9 @@
 //! A shelf in memory that can fail.
-ghost use Rattle.std.specs.Prelude.{◌≡◌, ◌<◌, ◌≤◌, ℕ, Option, Some, None, [], ◌∷◌, ◌++◌, ◌&&◌, not, is_ok, OnOk, OnErr, IsSome, IsSomeAnd, length};
+ghost use Rattle.std.specs.Prelude.{◌≡◌, ◌<◌, ◌≤◌, ℕ, Option, Some, None, [], ◌∷◌, ◌++◌, ◌&&◌, not, is_ok, IfOk, OnOk, OnErr, IsSome, IsSomeAnd, length};
 ghost use Rattle.std.specs.Prelude.{slice_index, slice_set};
 ghost use Rattle.std.specs.Io.{ReadsAtMost};
 ghost use Rattle.cvc_io.specs.Causes.{HasCause, Rose, bump};
-ghost use Rattle.cvc_io.specs.Files.{IsOpened, Reads, NoneFalls, RoseFor};
+ghost use Rattle.cvc_io.specs.Files.{Fills, IsOpened, Reads, NoneFalls, RoseFor};
 ghost use Rattle.std.specs.Option.{ForSome};
 ghost use Rattle.cvc_io.specs.MemFiles.{IsOpenFile, count_at};
 
@@ -155,6 +155,8 @@ impl Shelf for MemShelf {
         ensures files { Some (files_of self.new) ≡ Some (files_of self.old) }
         ensures bound { ReadsAtMost result buf.new }
         ensures bytes { Reads (standing_of self.old) (standing_of self.new) result buf.new }
+        // It gives as much as there is room for, or all that is left.
+        ensures fills { IfOk result (Fills (standing_of self.old) (length buf.old)) }
         ensures counts { NoneFalls (counts_of self.old) (counts_of self.new) }
         ensures cause { OnErr result (RoseFor (standing_of self.old) (counts_of self.old) (counts_of self.new)) }
         // It fails exactly where the call was to fail.

@@ -1,5 +1,5 @@
 //! Standard output as a sink.
-ghost use Rattle.std.specs.Prelude.{None};
+ghost use Rattle.std.specs.Prelude.{◌≡◌, None};
 
 use crate::{Sink, WriteFailed};
 
@@ -11,8 +11,10 @@ pub struct StdSink<'r, R: Print> {
 }
 
 impl<'r, R: Print> StdSink<'r, R> {
-    /// The standard output of this runtime.
-    pub fn new(rt: &'r R) -> StdSink<'r, R> {
+    /// The standard output of this runtime. No write has failed.
+    pub fn new(rt: &'r R) -> StdSink<'r, R>
+        ensures { ⟦<StdSink<'r, R> as Sink>⟧.faults result ≡ 0 }
+    {
         StdSink { rt, faults: 0 }
     }
 }
