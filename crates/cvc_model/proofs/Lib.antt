@@ -1,6 +1,4 @@
 pub mod Keys
-pub mod Binding
-pub mod Verdicts
 pub mod Places
 pub mod Entries
 pub mod Tokens

@@ -13,9 +13,10 @@ use Rattle.cvc_base.specs.declared.stop.Stop.TheVariants.{At, NoMemory}
 use Rattle.cvc_base.specs.Answers.{GivesOrStops}
 use Rattle.cvc_model.specs.declared.row.ModelRow.{ModelRow}
 use Rattle.cvc_model.specs.Chosen.{outcome_of, outcome_of_test, while_holds}
-use Rattle.cvc_model.specs.Settings.{then_with}
-use Rattle.cvc_model.specs.Rows.{Content, text_of, with_text, with_texts}
+use Rattle.cvc_model.specs.Rows.{Content, with_text, with_texts}
+use Rattle.cvc_rows.specs.Tokens.{text_of}
 use Rattle.cvc_model.specs.Drafting.{IsDraft, KeepsDraft}
+use Rattle.cvc_base.specs.Order.{◌>>=◌}
 
 drop_read : {A : Type 0} (xs : List A) (i : ℕ) (x : A) → i < length xs → x ≡ get_or xs i x → drop i xs ≡ x ∷ drop (i + 1) xs
 drop_read xs i x within at = drop-cons xs i x within ∙ ap (λ y. y ∷ drop (suc i) xs) (sym at) ∙ ap (λ n. x ∷ drop n xs) (sym (add-one i))
@@ -49,12 +50,12 @@ of_draft draft (Err cause) h = absurd h
 
 module _ (kind : Kind) (items : List Token) (answer : Result Content Cause) (content : Content) (i : ℕ) (so_far : answer ≡ with_texts kind content (map text_of (drop i items))) where
   pub one_item : (item : Token) → i < length items → item ≡ get_or items i item → (text : List ℕ) → text ≡ item.text → (r : Result Content Cause) → with_text kind content text ≡ r
-      → answer ≡ then_with r (λ next. with_texts kind next (map text_of (drop (i + 1) items)))
+      → answer ≡ ◌>>=◌ r (λ next. with_texts kind next (map text_of (drop (i + 1) items)))
   unfolding with_texts
   one_item item within at text same r e =
       so_far ∙ ap (λ ts. with_texts kind content (map text_of ts)) (drop_read items i item within at)
-      ∙ ap (λ t. then_with (with_text kind content t) (λ next. with_texts kind next (map text_of (drop (i + 1) items)))) (sym same)
-      ∙ ap (λ s. then_with s (λ next. with_texts kind next (map text_of (drop (i + 1) items)))) e
+      ∙ ap (λ t. ◌>>=◌ (with_text kind content t) (λ next. with_texts kind next (map text_of (drop (i + 1) items)))) (sym same)
+      ∙ ap (λ s. ◌>>=◌ s (λ next. with_texts kind next (map text_of (drop (i + 1) items)))) e
 
   pub no_item : length items ≤ i → answer ≡ Ok content
   unfolding with_texts

@@ -1,12 +1,12 @@
 -- What the reader keeps of a row while it reads its items, and what each part of that stands for in the definition of rows. Only the reader's own
 -- calls speak of it.
-use Rattle.std.specs.Prelude.{◌≡◌, ℕ, List, Result, Ok, Err, ℤ, codes}
+use Rattle.std.specs.Prelude.{◌≡◌, ◌≢◌, ◌≤ℤ◌, ℕ, List, Result, Ok, Err, ℤ, pos, codes}
 use Rattle.cvc_base.specs.declared.cause.Cause.{Cause}
 use Rattle.cvc_base.specs.declared.stop.Stop.{Stop}
 use Rattle.cvc_base.specs.declared.stop.Stop.TheVariants.{At, NoMemory}
 use Rattle.cvc_model.specs.declared.key.Key.{Key}
 use Rattle.cvc_model.specs.declared.key.Key.TheVariants.{Vth, Vj, Vgs, Vgd, Vds, Vbs, Vbd, Vbg, Vf}
-use Rattle.cvc_model.specs.declared.key.Voltages.{Voltages}
+use Rattle.cvc_model.specs.declared.voltages.Voltages.{Voltages}
 use Rattle.cvc_model.specs.declared.draft.Draft.{Draft}
 use Rattle.cvc_model.specs.declared.item.Sign.{Sign}
 use Rattle.cvc_model.specs.declared.item.Sign.TheVariants.{Equals, Less, AtLeast}
@@ -40,6 +40,10 @@ word_of_key Vf = codes "vf"
 
 abbrev pub setting_of : Key → ℤ × ℤ → Setting
 setting_of key voltages = record { key = word_of_key key; voltages = voltages }
+
+-- a key has such voltages: only a threshold may be negative
+abbrev pub MayHave : Key → ℤ × ℤ → Type 0
+MayHave key voltages = key ≢ Vth → pos 0 ≤ℤ voltages.0
 
 -- the voltages that are kept are those that the settings say
 pub record AreVoltages (kept : Voltages) (settings : List Setting) : Type 0 where

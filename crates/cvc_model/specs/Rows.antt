@@ -1,7 +1,7 @@
 -- The row of a line, or its first fault: BadRow where the line has fewer than two tokens, then UnknownKind, then the first fault of an item from the
 -- left, then MissingVth where a MOS has no threshold. An item's fault is BadRow where it is no item or its number is none, else that of what it sets.
 -- The two voltages of Vth are the corners of a MOS: as written for nmos, by their magnitudes for pmos.
-use Rattle.std.specs.Prelude.{ℕ, Bool, true, false, List, [], ◌∷◌, ◌++◌, map, Option, Some, None, unwrap_or, option_map, Result, Ok, Err, ℤ, pos, unsigned_abs, codes}
+use Rattle.std.specs.Prelude.{ℕ, Bool, true, false, List, [], ◌∷◌, ◌++◌, Option, Some, None, unwrap_or, option_map, Result, Ok, Err, ℤ, pos, unsigned_abs, codes}
 use Rattle.std.specs.Int.{int_min, int_max}
 use Rattle.cvc_base.specs.declared.cause.Cause.{Cause}
 use Rattle.cvc_base.specs.declared.cause.Cause.TheVariants.{BadRow, UnknownKind, MissingVth}
@@ -9,14 +9,15 @@ use Rattle.cvc_base.specs.declared.device.Kind.{Kind}
 use Rattle.cvc_base.specs.declared.device.Kind.TheVariants.{Nmos, Pmos}
 use Rattle.cvc_base.specs.declared.device.Volts.{Volts}
 use Rattle.cvc_base.specs.declared.line.Line.{Line}
-use Rattle.cvc_base.specs.declared.line.Token.{Token}
 use Rattle.cvc_units.specs.declared.fault.NumFault.{NumFault}
 use Rattle.cvc_units.specs.Number.{number_of}
+use Rattle.cvc_rows.specs.Tokens.{texts_of}
 use Rattle.cvc_model.specs.declared.row.ModelRow.{ModelRow}
 use Rattle.cvc_model.specs.declared.row.Test.{Test}
 use Rattle.cvc_model.specs.Words.{kind_of}
 use Rattle.cvc_model.specs.Items.{Item, Sets, IsLess, IsAtLeast, item_in}
-use Rattle.cvc_model.specs.Settings.{Setting, with_setting, then_with, voltages_for, voltage_for}
+use Rattle.cvc_model.specs.Settings.{Setting, with_setting, voltages_for, voltage_for}
+use Rattle.cvc_base.specs.Order.{◌>>=◌}
 
 -- ## What the items say
 
@@ -30,7 +31,7 @@ with_test content param less (Ok n) = Ok (record content { tests = content.tests
 with_test content param less (Err e) = Err BadRow
 
 abbrev pub with_settings : Content → Result (List Setting) Cause → Result Content Cause
-with_settings content settings = then_with settings (λ more. Ok (record content { settings = more }))
+with_settings content settings = settings >>= λ more. Ok (record content { settings = more })
 
 abbrev pub with_item : Kind → Content → Option Item → Result Content Cause
 with_item kind content None = Err BadRow
@@ -45,7 +46,9 @@ with_text kind content text = with_item kind content (item_in text)
 -- several items more, from the left
 unfoldable pub with_texts : Kind → Content → List (List ℕ) → Result Content Cause
 with_texts kind content [] = Ok content
-with_texts kind content (text ∷ texts) = then_with (with_text kind content text) (λ next. with_texts kind next texts)
+with_texts kind content (text ∷ texts) = do
+  next ← with_text kind content text
+  with_texts kind next texts
 
 abbrev pub no_content : Content
 no_content = record { settings = []; tests = [] }
@@ -88,11 +91,11 @@ volts_of kind settings = volts_with settings (corners_of kind (voltages_for (cod
 
 abbrev pub row_from : ℕ → List ℕ → Kind → Content → Result ModelRow Cause
 row_from number name kind content =
-    then_with (volts_of kind content.settings) (λ volts. Ok (record { name = name; kind = kind; volts = volts; tests = content.tests; line = number }))
+    volts_of kind content.settings >>= λ volts. Ok (record { name = name; kind = kind; volts = volts; tests = content.tests; line = number })
 
 abbrev pub row_with : ℕ → List ℕ → Option Kind → List (List ℕ) → Result ModelRow Cause
 row_with number name None texts = Err UnknownKind
-row_with number name (Some kind) texts = then_with (with_texts kind no_content texts) (row_from number name kind)
+row_with number name (Some kind) texts = with_texts kind no_content texts >>= row_from number name kind
 
 -- the row of these tokens
 unfoldable pub row_in : ℕ → List (List ℕ) → Result ModelRow Cause
@@ -100,8 +103,5 @@ row_in number [] = Err BadRow
 row_in number (name ∷ []) = Err BadRow
 row_in number (name ∷ word ∷ texts) = row_with number name (kind_of word) texts
 
-abbrev pub text_of : Token → List ℕ
-text_of token = token.text
-
 abbrev pub row_of : Line → Result ModelRow Cause
-row_of line = row_in line.first (map text_of line.tokens)
+row_of line = row_in line.first (texts_of line.tokens)

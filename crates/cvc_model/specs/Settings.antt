@@ -5,16 +5,11 @@ use Rattle.std.specs.Prelude.{ℕ, ◌+◌, ◌==◌, Bool, if◌then◌else◌,
 use Rattle.std.specs.List.{position_from}
 use Rattle.std.specs.Str.{bytes_eq, str_eq_ignore_ascii_case}
 use Rattle.cvc_base.specs.declared.cause.Cause.{Cause}
-use Rattle.cvc_base.specs.declared.cause.Cause.TheVariants.{BadRow, UnknownKey, BadVoltage, Negative}
+use Rattle.cvc_base.specs.declared.cause.Cause.TheVariants.{BadRow, UnknownKey, Negative}
 use Rattle.cvc_base.specs.declared.device.Kind.{Kind}
 use Rattle.cvc_base.specs.declared.device.Kind.TheVariants.{Nmos, Pmos, Resistor, Diode, Capacitor, Inductor, Bipolar}
-use Rattle.cvc_units.specs.declared.fault.NumFault.{NumFault}
-use Rattle.cvc_units.specs.Number.{millivolts_of}
-
--- what follows an answer; a cause stays
-abbrev pub then_with : {A B : Type 0} → Result A Cause → (A → Result B Cause) → Result B Cause
-then_with (Ok x) next = next x
-then_with (Err cause) next = Err cause
+use Rattle.cvc_rows.specs.Tokens.{voltage_of}
+use Rattle.cvc_base.specs.Order.{◌>>=◌}
 
 -- ## Keys
 
@@ -36,23 +31,18 @@ key_of kind text = find (str_eq_ignore_ascii_case text) (keys_of kind)
 
 -- ## Values
 
-abbrev pub voltage_from : Result ℤ NumFault → Result ℤ Cause
-voltage_from (Ok v) = Ok v
-voltage_from (Err e) = Err BadVoltage
-
--- the voltage that a text is
-abbrev pub voltage_of : List ℕ → Result ℤ Cause
-voltage_of text = voltage_from (millivolts_of text)
-
 abbrev pub twice : ℤ → ℤ × ℤ
 twice v = (v, v)
 
 abbrev pub both_voltages : List ℕ → List ℕ → Result (ℤ × ℤ) Cause
-both_voltages first second = then_with (voltage_of first) (λ v. then_with (voltage_of second) (λ w. Ok (v, w)))
+both_voltages first second = do
+  v ← voltage_of first
+  w ← voltage_of second
+  Ok (v, w)
 
 -- the voltages of a text with its first `:` at this place, if it has one
 abbrev pub thresholds_at : Option ℕ → List ℕ → Result (ℤ × ℤ) Cause
-thresholds_at None text = then_with (voltage_of text) (λ v. Ok (twice v))
+thresholds_at None text = voltage_of text >>= λ v. Ok (twice v)
 thresholds_at (Some place) text = both_voltages (take place text) (drop (place + 1) text)
 
 abbrev pub is_colon : ℕ → Bool
@@ -67,11 +57,11 @@ unless_negative v = if int_lt v (pos 0) then Err Negative else Ok v
 
 -- the voltage of every other key
 abbrev pub limit_in : List ℕ → Result ℤ Cause
-limit_in text = then_with (voltage_of text) unless_negative
+limit_in text = voltage_of text >>= unless_negative
 
 -- the voltages that a value gives a key
 abbrev pub voltages_under : List ℕ → List ℕ → Result (ℤ × ℤ) Cause
-voltages_under key value = if bytes_eq key (codes "vth") then thresholds_in value else then_with (limit_in value) (λ v. Ok (twice v))
+voltages_under key value = if bytes_eq key (codes "vth") then thresholds_in value else (limit_in value >>= λ v. Ok (twice v))
 
 -- ## Settings
 
@@ -95,7 +85,7 @@ abbrev pub with_key : List Setting → Option (List ℕ) → List ℕ → Result
 with_key settings None value = Err UnknownKey
 with_key settings (Some key) value =
     if is_some (find (has_key key) settings) then Err BadRow
-    else then_with (voltages_under key value) (λ voltages. Ok (record { key = key; voltages = voltages } ∷ settings))
+    else (voltages_under key value >>= λ voltages. Ok (record { key = key; voltages = voltages } ∷ settings))
 
 unfoldable pub with_setting : Kind → List Setting → List ℕ → List ℕ → Result (List Setting) Cause
 with_setting kind settings key value = with_key settings (key_of kind key) value

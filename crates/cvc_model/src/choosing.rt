@@ -4,8 +4,8 @@ ghost use Rattle.cvc_model.specs.Chosen.{outcome_at as outcome_in, outcome_of as
 ghost use Rattle.cvc_model.specs.Chosen.{last_named as last_of_name, passes as passes_at};
 
 use crate::row::{Test, Tests};
-use crate::words::is_word;
 use cvc_base::{Param, Params, Value};
+use cvc_rows::is_word;
 
 /// What a test says of a device's parameters.
 #[derive(Clone, Copy, Debug, PartialEq, Eq)]

@@ -1,14 +1,16 @@
 //! A row while its items are read, from the left.
-ghost use Rattle.std.specs.Prelude.{◌≡◌, List, map, true, false};
+ghost use Rattle.std.specs.Prelude.{◌≡◌, List, map, true, false, IfOk};
 ghost use Rattle.cvc_units.specs.Number.{number_of};
 ghost use Rattle.cvc_model.specs.Settings.{Setting, voltages_under as values_under, with_setting};
-ghost use Rattle.cvc_model.specs.Rows.{Content, no_content, text_of, with_settings, with_test, with_text, with_texts};
-ghost use Rattle.cvc_model.specs.Drafting.{AreVoltages, IsDraft, KeepsContent, KeepsDraft, KeepsSettings, word_of_key};
+ghost use Rattle.cvc_model.specs.Rows.{Content, no_content, with_settings, with_test, with_text, with_texts};
+ghost use Rattle.cvc_rows.specs.Tokens.{text_of};
+ghost use Rattle.cvc_model.specs.Drafting.{AreVoltages, IsDraft, KeepsContent, KeepsDraft, KeepsSettings, MayHave, word_of_key};
 
 use crate::item::{Sign, split_item};
-use crate::key::{Key, Voltages, key_of};
+use crate::key::{Key, key_of};
 use crate::row::{Test, Tests};
 use crate::value::{limit, thresholds};
+use crate::voltages::Voltages;
 use cvc_base::{Cause, Kind, Mv, Stop, Text, Token};
 use cvc_units::read_number;
 use std::alloc::Global;
@@ -22,7 +24,8 @@ pub(crate) struct Draft {
 
 // The voltages that a value gives a key.
 fn voltages_under(key: Key, value: &[u8]) -> Result<(Mv, Mv), Cause>
-    ensures { result ≡ values_under (word_of_key key) value.now }
+    ensures voltages { result ≡ values_under (word_of_key key) value.now }
+    ensures may { IfOk result (MayHave key) }
 {
     if matches!(key, Key::Vth) {
         return thresholds(value);

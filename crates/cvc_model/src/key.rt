@@ -1,11 +1,11 @@
-//! The keys of model rows, and the voltages that a row gives under them.
-ghost use Rattle.std.specs.Prelude.{◌≡◌, ◌∷◌, [], ℤ, List, find, is_some, map, option_map};
+//! The keys of model rows.
+ghost use Rattle.std.specs.Prelude.{◌≡◌, find, map, option_map};
 ghost use Rattle.std.specs.Str.{str_eq_ignore_ascii_case};
-ghost use Rattle.cvc_model.specs.Settings.{Setting, has_key, key_of as key_in, keys_of as keys_in};
-ghost use Rattle.cvc_model.specs.Drafting.{AreVoltages, setting_of, word_of_key};
+ghost use Rattle.cvc_model.specs.Settings.{key_of as key_in, keys_of as keys_in};
+ghost use Rattle.cvc_model.specs.Drafting.{word_of_key};
 
-use crate::words::is_word;
-use cvc_base::{Kind, Mv};
+use cvc_base::Kind;
+use cvc_rows::is_word;
 
 /// What a voltage of a row is for.
 #[derive(Clone, Copy, Debug, PartialEq, Eq)]
@@ -73,70 +73,4 @@ pub(crate) fn key_of(kind: Kind, text: &[u8]) -> Option<Key>
     ensures { option_map word_of_key result ≡ key_in kind text.now }
 {
     key_among(keys_of(kind), text)
-}
-
-/// The voltages that the items of a row give so far, two for a threshold.
-#[derive(Clone, Copy)]
-pub(crate) struct Voltages {
-    pub(crate) vth: Option<(Mv, Mv)>,
-    pub(crate) vj: Option<Mv>,
-    pub(crate) vgs: Option<Mv>,
-    pub(crate) vgd: Option<Mv>,
-    pub(crate) vds: Option<Mv>,
-    pub(crate) vbs: Option<Mv>,
-    pub(crate) vbd: Option<Mv>,
-    pub(crate) vbg: Option<Mv>,
-    pub(crate) vf: Option<Mv>,
-}
-
-impl Voltages {
-    pub(crate) fn none() -> Voltages
-        ensures { AreVoltages result [] }
-    {
-        Voltages {
-            vth: None,
-            vj: None,
-            vgs: None,
-            vgd: None,
-            vds: None,
-            vbs: None,
-            vbd: None,
-            vbg: None,
-            vf: None,
-        }
-    }
-
-    // Whether an earlier item gave this key.
-    pub(crate) fn has(&self, key: Key) -> bool
-        ensures { (settings : List Setting) → AreVoltages self.now settings → result ≡ is_some (find (has_key (word_of_key key)) settings) }
-    {
-        match key {
-            Key::Vth => self.vth.is_some(),
-            Key::Vj => self.vj.is_some(),
-            Key::Vgs => self.vgs.is_some(),
-            Key::Vgd => self.vgd.is_some(),
-            Key::Vds => self.vds.is_some(),
-            Key::Vbs => self.vbs.is_some(),
-            Key::Vbd => self.vbd.is_some(),
-            Key::Vbg => self.vbg.is_some(),
-            Key::Vf => self.vf.is_some(),
-        }
-    }
-
-    // The voltages of this key: a threshold keeps both, each other key the first.
-    pub(crate) fn set(&mut self, key: Key, voltages: (Mv, Mv))
-        ensures { (settings : List Setting) → AreVoltages self.old settings → AreVoltages self.new (setting_of key voltages ∷ settings) }
-    {
-        match key {
-            Key::Vth => self.vth = Some(voltages),
-            Key::Vj => self.vj = Some(voltages.0),
-            Key::Vgs => self.vgs = Some(voltages.0),
-            Key::Vgd => self.vgd = Some(voltages.0),
-            Key::Vds => self.vds = Some(voltages.0),
-            Key::Vbs => self.vbs = Some(voltages.0),
-            Key::Vbd => self.vbd = Some(voltages.0),
-            Key::Vbg => self.vbg = Some(voltages.0),
-            Key::Vf => self.vf = Some(voltages.0),
-        }
-    }
 }

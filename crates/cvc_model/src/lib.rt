@@ -13,6 +13,7 @@ mod models;
 mod reading;
 mod row;
 mod value;
+mod voltages;
 mod words;
 
 pub use models::{Choice, Models};

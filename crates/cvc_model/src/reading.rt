@@ -1,22 +1,22 @@
 //! Whole model files.
 ghost use Rattle.std.specs.Prelude.{◌≡◌, Ok, Err, IfOk};
-ghost use Rattle.cvc_base.specs.Answers.{Gives, GivesOrStops, IfAt};
-ghost use Rattle.cvc_lex.specs.Judged.{said};
+ghost use Rattle.cvc_base.specs.Answers.{GivesOrStops, IfAt};
 ghost use Rattle.cvc_model.specs.Rows.{row_of};
-ghost use Rattle.cvc_model.specs.Bindable.{AreBindable};
-ghost use Rattle.cvc_model.specs.Models.{models_of, verdict};
+ghost use Rattle.cvc_model.specs.Bindable.{AreBindable, IsBindable};
+ghost use Rattle.cvc_model.specs.Models.{models_of};
 
 use crate::draft::read_items;
 use crate::models::Models;
 use crate::row::{ModelRow, volts_of};
 use crate::words::kind_of;
-use cvc_base::{Cause, FileKind, ItemList, Line, Refusal, Stop, Text};
-use cvc_lex::Lexer;
+use cvc_base::{Cause, FileKind, Line, Refusal, Stop, Text};
+use cvc_rows::{Judge, Refused, read_rows};
 use std::alloc::Global;
 
 // The row of a line, by itself.
 fn read_row(alloc: Global, line: &Line) -> Result<ModelRow, Stop>
-    ensures { GivesOrStops (λ row. row) result (row_of line.now) }
+    ensures row { GivesOrStops (λ row. row) result (row_of line.now) }
+    ensures bindable { IfOk result IsBindable }
 {
     let [name, word, items @ ..] = line.tokens.as_slice() else {
         return Err(Stop::At(Cause::BadRow));
@@ -35,18 +35,38 @@ fn read_row(alloc: Global, line: &Line) -> Result<ModelRow, Stop>
     })
 }
 
-// The rows of the lines that the lexer still has.
-fn read_rows(alloc: Global, lexer: &mut Lexer) -> Result<ItemList<ModelRow>, Refusal>
-    ensures { Gives (λ rows. rows) result (said verdict lexer.old.waiting) }
-{
-    let mut rows = ItemList::new(alloc);
-    while let Some(line) = lexer.next_line() {
-        match read_row(alloc, &line) {
-            Ok(row) => rows.push(row)?,
-            Err(stop) => return Err(stop.on(FileKind::Models, line.first)),
+// A judge of model rows. Each stands by itself.
+#[derive(Drop)]
+struct ModelJudge;
+
+impl Judge for ModelJudge {
+    ghost use Rattle.cvc_model.specs.Bindable.{IsBindable};
+    ghost use Rattle.cvc_model.specs.Models.{verdict};
+    ghost use Rattle.cvc_rows.specs.Rows.{as_written};
+
+    type Row = ModelRow;
+
+    type Cause = Cause;
+
+    ghost verdict = { λ _. verdict };
+
+    ghost told = { as_written };
+
+    ghost knows = { λ _ _. Unit {0} };
+
+    ghost fine = { IsBindable };
+
+    fn judge(&mut self, alloc: Global, line: &Line) -> Result<ModelRow, Refused<Cause>> {
+        match read_row(alloc, line) {
+            Ok(row) => Ok(row),
+            Err(Stop::At(cause)) => Err(Refused::At(cause)),
+            Err(Stop::NoMemory) => Err(Refused::NoMemory),
         }
     }
-    Ok(rows)
+
+    fn tell(cause: Cause) -> Cause {
+        cause
+    }
 }
 
 /// The rows of a model file, or its first fault. Faults stand by line; on one line those of its bytes and tokens come first, then
@@ -59,12 +79,8 @@ pub fn read_models(alloc: Global, bytes: &[u8]) -> Result<Models, Refusal>
     // What binding asks of the rows.
     ensures bindable { IfOk result AreBindable }
 {
-    let mut lexer = Lexer::new(alloc, FileKind::Models)?;
-    // a refusal is kept: the end of the file answers it again
-    let _ = lexer.feed(bytes);
-    let ended = lexer.finish();
-    // the rows before the line of a lexical fault are judged first
-    let rows = read_rows(alloc, &mut lexer)?;
-    ended?;
-    Ok(Models::of(alloc, rows)?)
+    match read_rows(alloc, FileKind::Models, bytes, ModelJudge) {
+        Ok(rows) => Ok(Models::of(alloc, rows)?),
+        Err(refused) => Err(refused.of(FileKind::Models)),
+    }
 }

@@ -1,10 +1,12 @@
 //! The rows of a model file.
-ghost use Rattle.std.specs.Prelude.{◌≡◌, List, pos, unwrap_or};
+ghost use Rattle.std.specs.Prelude.{◌≡◌, ◌≤ℤ◌, ℤ, List, pos, unwrap_or, IfOk, IfSome};
+ghost use Rattle.std.specs.Option.{ForSome};
 ghost use Rattle.cvc_model.specs.Settings.{Setting};
 ghost use Rattle.cvc_model.specs.Rows.{corners_of, in_order as ordered, magnitude_of, volts_of as volts_in};
 ghost use Rattle.cvc_model.specs.Drafting.{AreVoltages};
+ghost use Rattle.cvc_model.specs.Bindable.{AreCorners, AreVoltsOf};
 
-use crate::key::Voltages;
+use crate::voltages::Voltages;
 use cvc_base::{Cause, ItemList, Kind, Mv, Text, Volts};
 
 /// What a row asks of a parameter: that it is less than a number, or else at least that number. The number is in units of 10 to the
@@ -30,13 +32,15 @@ pub struct ModelRow {
 }
 
 fn magnitude(voltage: Mv) -> Mv
-    ensures { result ≡ magnitude_of voltage }
+    ensures magnitude { result ≡ magnitude_of voltage }
+    ensures not_negative { pos 0 ≤ℤ result }
 {
     Mv::new(voltage.get().abs()).unwrap()
 }
 
 fn or_zero(voltage: Option<Mv>) -> Mv
-    ensures { result ≡ unwrap_or voltage (pos 0) }
+    ensures voltage { result ≡ unwrap_or voltage (pos 0) }
+    ensures not_negative { ForSome voltage (λ v. pos 0 ≤ℤ v) → pos 0 ≤ℤ result }
 {
     match voltage {
         Some(voltage) => voltage,
@@ -45,7 +49,9 @@ fn or_zero(voltage: Option<Mv>) -> Mv
 }
 
 fn in_order(first: Mv, second: Mv) -> (Mv, Mv)
-    ensures { result ≡ ordered first second }
+    ensures both { result ≡ ordered first second }
+    ensures order { result.0 ≤ℤ result.1 }
+    ensures above { (least : ℤ) → least ≤ℤ first → least ≤ℤ second → least ≤ℤ result.0 }
 {
     if second.get() < first.get() {
         (second, first)
@@ -56,7 +62,8 @@ fn in_order(first: Mv, second: Mv) -> (Mv, Mv)
 
 // The thresholds of the corner that conducts most and of the one that conducts least; `None` where a kind that needs them lacks them.
 fn corners(kind: Kind, vth: Option<(Mv, Mv)>) -> Option<(Mv, Mv)>
-    ensures { result ≡ corners_of kind vth }
+    ensures corners { result ≡ corners_of kind vth }
+    ensures ordered { IfSome result (AreCorners kind) }
 {
     match (kind, vth) {
         (Kind::Nmos, Some((first, second))) => Some(in_order(first, second)),
@@ -68,7 +75,8 @@ fn corners(kind: Kind, vth: Option<(Mv, Mv)>) -> Option<(Mv, Mv)>
 
 // The voltages of a row of this kind.
 pub(crate) fn volts_of(kind: Kind, given: &Voltages) -> Result<Volts, Cause>
-    ensures { (settings : List Setting) → AreVoltages given.now settings → result ≡ volts_in kind settings }
+    ensures volts { (settings : List Setting) → AreVoltages given.now settings → result ≡ volts_in kind settings }
+    ensures bindable { IfOk result (AreVoltsOf kind) }
 {
     let Some((threshold, weak)) = corners(kind, given.vth) else {
         return Err(Cause::MissingVth);

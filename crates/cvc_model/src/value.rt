@@ -1,24 +1,15 @@
 //! The voltages that the value of a key writes.
-ghost use Rattle.std.specs.Prelude.{◌≡◌, ◌<◌, length, IfSome};
+ghost use Rattle.std.specs.Prelude.{◌≡◌, ◌<◌, ◌≤ℤ◌, length, pos, IfOk, IfSome};
 ghost use Rattle.std.specs.List.{position_from};
-ghost use Rattle.cvc_model.specs.Settings.{is_colon, both_voltages as both_of, limit_in, thresholds_in, voltage_of};
+ghost use Rattle.cvc_model.specs.Settings.{is_colon, both_voltages as both_of, limit_in, thresholds_in};
 
 use cvc_base::{Cause, Mv};
-use cvc_units::read_mv;
-
-fn voltage(text: &[u8]) -> Result<Mv, Cause>
-    ensures { result ≡ voltage_of text.now }
-{
-    match read_mv(text) {
-        Ok(millivolts) => Mv::new(millivolts).ok_or(Cause::BadVoltage),
-        Err(_) => Err(Cause::BadVoltage),
-    }
-}
+use cvc_rows::read_voltage;
 
 fn both_voltages(first: &[u8], second: &[u8]) -> Result<(Mv, Mv), Cause>
     ensures { result ≡ both_of first.now second.now }
 {
-    Ok((voltage(first)?, voltage(second)?))
+    Ok((read_voltage(first)?, read_voltage(second)?))
 }
 
 fn colon_place(text: &[u8]) -> Option<usize>
@@ -35,15 +26,16 @@ pub(crate) fn thresholds(text: &[u8]) -> Result<(Mv, Mv), Cause>
     if let Some(place) = colon_place(text) {
         return both_voltages(&text[..place], &text[place + 1..]);
     }
-    let voltage = voltage(text)?;
+    let voltage = read_voltage(text)?;
     Ok((voltage, voltage))
 }
 
 // The voltage of every other key, which is not negative.
 pub(crate) fn limit(text: &[u8]) -> Result<Mv, Cause>
-    ensures { result ≡ limit_in text.now }
+    ensures limit { result ≡ limit_in text.now }
+    ensures not_negative { IfOk result (λ limit. pos 0 ≤ℤ limit) }
 {
-    let limit = voltage(text)?;
+    let limit = read_voltage(text)?;
     if limit.get() < 0 {
         return Err(Cause::Negative);
     }

@@ -1,9 +1,9 @@
-//! Words without regard to case.
+//! The words of kinds.
 ghost use Rattle.std.specs.Prelude.{◌≡◌, find};
-ghost use Rattle.std.specs.Str.{str_eq_ignore_ascii_case};
 ghost use Rattle.cvc_model.specs.Words.{word_of_kind, kinds, kind_of as kind_in};
 
 use cvc_base::Kind;
+use cvc_rows::is_word;
 
 const KINDS: [Kind; 7] = [
     Kind::Nmos,
@@ -14,13 +14,6 @@ const KINDS: [Kind; 7] = [
     Kind::Inductor,
     Kind::Bipolar,
 ];
-
-// Whether the texts are one word, without regard to case.
-pub(crate) fn is_word(text: &[u8], word: &[u8]) -> bool
-    ensures { result ≡ str_eq_ignore_ascii_case text.now word.now }
-{
-    text.eq_ignore_ascii_case(word)
-}
 
 fn kind_word(kind: Kind) -> &'static [u8]
     ensures { result.now ≡ word_of_kind kind }

@@ -1,54 +1,44 @@
--- The declared rows of a power file, or its first fault. Each logical line has a verdict: its row, or its first fault, where TwiceRow comes last and
--- stands where an earlier line has the same name, byte by byte. A file has its rows where no line has a fault. Else its first fault is by line, and on one
--- line a lexical fault goes first: so a row's fault is the first exactly where its line ends before the line of the first lexical fault.
-use Rattle.std.specs.Prelude.{ℕ, Bool, List, [], ◌∷◌, map, Result, Ok, Err, ◌≤ℤ◌, if◌then◌else◌}
-use Rattle.std.specs.List.{list_any}
-use Rattle.std.specs.Str.{bytes_eq}
+-- The declared rows of a power file, or its first fault: the rows of its lines, judged in order, where TwiceRow comes last on a line and stands where an
+-- earlier row has the same name, byte by byte.
+use Rattle.std.specs.Prelude.{ℕ, List, [], ◌∷◌, map, Result, Ok, Err, ◌≤ℤ◌, if◌then◌else◌}
 use Rattle.cvc_base.specs.declared.cause.Cause.{Cause}
-use Rattle.cvc_base.specs.declared.cause.Cause.TheVariants.{TwiceRow}
+use Rattle.cvc_base.specs.declared.cause.Cause.TheVariants.{BadRow, TwiceRow}
 use Rattle.cvc_base.specs.declared.fault.Fault.{Fault}
 use Rattle.cvc_base.specs.declared.fault.FileKind.TheVariants.{Power}
 use Rattle.cvc_base.specs.declared.line.Line.{Line}
-use Rattle.cvc_base.specs.Faults.{fault_on}
-use Rattle.cvc_lex.specs.Judged.{judged}
+use Rattle.cvc_base.specs.Order.{◌>>=◌}
+use Rattle.cvc_names.specs.Names.{is_among}
+use Rattle.cvc_rows.specs.Rows.{rows_of_input}
+use Rattle.cvc_rows.specs.Tokens.{texts_of}
 use Rattle.cvc_power.specs.declared.row.PowerRow.{PowerRow}
 use Rattle.cvc_power.specs.declared.row.Span.{Span}
-use Rattle.cvc_power.specs.Rows.{text_of, span_of}
+use Rattle.cvc_power.specs.Rows.{span_of}
 
-abbrev pub texts_of : Line → List (List ℕ)
-texts_of line = map text_of line.tokens
+abbrev pub row_with : ℕ → List ℕ → Span → PowerRow
+row_with line name span = record { name = name; low = span.low; high = span.high; line = line }
 
-abbrev pub first_of : List (List ℕ) → List ℕ
-first_of [] = []
-first_of (text ∷ texts) = text
+-- the row of a line with these texts by itself, or its first cause but TwiceRow
+unfoldable pub row_in : ℕ → List (List ℕ) → Result PowerRow Cause
+row_in line [] = Err BadRow
+row_in line (name ∷ texts) = span_of texts >>= λ span. Ok (row_with line name span)
 
--- the net that a line names: its first token
-abbrev pub name_of : Line → List ℕ
-name_of line = first_of (texts_of line)
+abbrev pub row_of : Line → Result PowerRow Cause
+row_of line = row_in line.first (texts_of line.tokens)
 
-abbrev pub row_with : Line → Result Span Cause → Result PowerRow Fault
-row_with line (Ok span) = Ok (record { name = name_of line; low = span.low; high = span.high; line = line.first })
-row_with line (Err cause) = Err (fault_on Power line.first cause)
+abbrev pub name_of : PowerRow → List ℕ
+name_of row = row.name
 
--- the row of a line by itself, or its first fault but TwiceRow
-abbrev pub row_of : Line → Result PowerRow Fault
-row_of line = row_with line (span_of (texts_of line))
+-- the row, unless one of these has its name
+abbrev pub unless_twice : List PowerRow → PowerRow → Result PowerRow Cause
+unless_twice rows row = if is_among (map name_of rows) row.name then Err TwiceRow else Ok row
 
--- an earlier line has the name of this one
-abbrev pub is_taken : List Line → Line → Bool
-is_taken earlier line = list_any (bytes_eq (name_of line)) (map name_of earlier)
+-- the verdict on a line behind these rows
+abbrev pub verdict : List PowerRow → Line → Result PowerRow Cause
+verdict rows line = row_of line >>= unless_twice rows
 
-abbrev pub unless_taken : Bool → Line → Result PowerRow Fault → Result PowerRow Fault
-unless_taken taken line (Ok row) = if taken then Err (fault_on Power line.first TwiceRow) else Ok row
-unless_taken taken line (Err fault) = Err fault
-
--- the verdict on a line, after those earlier lines
-abbrev pub verdict : List Line → Line → Result PowerRow Fault
-verdict earlier line = unless_taken (is_taken earlier line) line (row_of line)
-
--- the rows of a whole file, or its first fault. Of the lines only those are judged that close before the line of a lexical fault.
+-- the rows of a whole file, or its first fault
 abbrev pub power_of : List ℕ → Result (List PowerRow) Fault
-power_of bytes = judged Power verdict bytes
+power_of bytes = rows_of_input verdict Power bytes
 
 -- what a row declares is a span
 abbrev pub IsOrdered : PowerRow → Type 0

@@ -4,22 +4,9 @@
 use Rattle.std.specs.Prelude.{ℕ, List, [], ◌∷◌, Result, Ok, Err, ℤ, int_lt, if◌then◌else◌, codes}
 use Rattle.std.specs.Str.{str_eq_ignore_ascii_case}
 use Rattle.cvc_base.specs.declared.cause.Cause.{Cause}
-use Rattle.cvc_base.specs.declared.cause.Cause.TheVariants.{BadRow, BadVoltage, MinAboveMax}
-use Rattle.cvc_base.specs.declared.line.Token.{Token}
-use Rattle.cvc_units.specs.declared.fault.NumFault.{NumFault}
-use Rattle.cvc_units.specs.Number.{millivolts_of}
+use Rattle.cvc_base.specs.declared.cause.Cause.TheVariants.{BadRow, MinAboveMax}
+use Rattle.cvc_rows.specs.Tokens.{voltage_of}
 use Rattle.cvc_power.specs.declared.row.Span.{Span}
-
-abbrev pub text_of : Token → List ℕ
-text_of token = token.text
-
--- a text that is no voltage is BadVoltage, whatever it lacks
-abbrev pub voltage_from : Result ℤ NumFault → Result ℤ Cause
-voltage_from (Ok v) = Ok v
-voltage_from (Err e) = Err BadVoltage
-
-abbrev pub voltage_of : List ℕ → Result ℤ Cause
-voltage_of text = voltage_from (millivolts_of text)
 
 -- one voltage is the lowest and the highest
 abbrev pub exactly : Result ℤ Cause → Result Span Cause
@@ -32,8 +19,8 @@ between (Ok low) (Ok high) = if int_lt high low then Err MinAboveMax else Ok (re
 between (Ok low) (Err cause) = Err cause
 between (Err cause) high = Err cause
 
--- the voltages of a row with these tokens
+-- the voltages of a row with these texts behind its name
 unfoldable pub span_of : List (List ℕ) → Result Span Cause
-span_of (name ∷ word ∷ only ∷ []) = if str_eq_ignore_ascii_case word (codes "power") then exactly (voltage_of only) else Err BadRow
-span_of (name ∷ word ∷ min ∷ max ∷ []) = if str_eq_ignore_ascii_case word (codes "input") then between (voltage_of min) (voltage_of max) else Err BadRow
+span_of (word ∷ only ∷ []) = if str_eq_ignore_ascii_case word (codes "power") then exactly (voltage_of only) else Err BadRow
+span_of (word ∷ min ∷ max ∷ []) = if str_eq_ignore_ascii_case word (codes "input") then between (voltage_of min) (voltage_of max) else Err BadRow
 span_of _ = Err BadRow

@@ -7,4 +7,4 @@ mod reading;
 mod row;
 
 pub use reading::{Power, read_power};
-pub use row::PowerRow;
+pub use row::{PowerRow, Span, span_of};

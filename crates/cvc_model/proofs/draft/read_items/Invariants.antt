@@ -1,5 +1,6 @@
 use Rattle.std.proofs.Common.{◌≡◌, drop, map}
-use Rattle.cvc_model.specs.Rows.{Content, no_content, text_of, with_texts}
+use Rattle.cvc_model.specs.Rows.{Content, no_content, with_texts}
+use Rattle.cvc_rows.specs.Tokens.{text_of}
 use Rattle.cvc_model.specs.Drafting.{IsDraft}
 use Rattle.cvc_model.proofs.draft.read_items.Given as goal
 
