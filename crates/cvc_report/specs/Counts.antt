@@ -4,7 +4,7 @@ use Rattle.cvc_base.specs.declared.rule.Rule.{Rule}
 use Rattle.cvc_base.specs.declared.rule.Rule.TheVariants.{OvervoltageGs, OvervoltageGd, OvervoltageDs, OvervoltageBs, OvervoltageBd, OvervoltageBg, ForwardBias, SourceBulk, PossibleLeak, SupplyPath, FloatingGate, SureLeak}
 use Rattle.cvc_base.specs.declared.finding.Finding.{Finding}
 use Rattle.cvc_law.specs.Network.{Network, nets, devices}
-use Rattle.cvc_report.specs.Lines.{line}
+use Rattle.cvc_text.specs.Lines.{line}
 use Rattle.cvc_report.specs.Printed.{rule_word}
 
 abbrev pub declared_count : Network → ℕ

@@ -1,6 +1,4 @@
-pub mod Lines
 pub mod Printed
-pub mod Writing
 pub mod Refusals
 pub mod Counts
 pub mod Summary

@@ -1,6 +1,5 @@
--- How files, rules and bounds are printed. Voltages are in millivolts, and an unknown bound is `?`.
-use Rattle.std.specs.Prelude.{ℕ, ℤ, List, Option, Some, None, codes}
-use Rattle.std.specs.Fmt.{signed_decimal}
+-- The words for files and rules.
+use Rattle.std.specs.Prelude.{ℕ, List, codes}
 use Rattle.cvc_base.specs.declared.fault.FileKind.{FileKind}
 use Rattle.cvc_base.specs.declared.fault.FileKind.TheVariants.{Netlist, Models, Power}
 use Rattle.cvc_base.specs.declared.rule.Rule.{Rule}
@@ -24,7 +23,3 @@ rule_word PossibleLeak = codes "possible-leak"
 rule_word SupplyPath = codes "supply-path"
 rule_word FloatingGate = codes "floating-gate"
 rule_word SureLeak = codes "sure-leak"
-
-abbrev pub bound_text : Option ℤ → List ℕ
-bound_text None = codes "?"
-bound_text (Some v) = signed_decimal v

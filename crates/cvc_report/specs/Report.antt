@@ -15,8 +15,9 @@ use Rattle.cvc_law.specs.declared.device.Device.{Device}
 use Rattle.cvc_law.specs.Network.{Network, nets, fixed_at, gate}
 use Rattle.cvc_law.specs.Family.{interval_at}
 use Rattle.cvc_law.specs.Rules.{findings_of}
-use Rattle.cvc_report.specs.Lines.{line}
-use Rattle.cvc_report.specs.Printed.{rule_word, bound_text}
+use Rattle.cvc_text.specs.Lines.{line}
+use Rattle.cvc_text.specs.Printed.{bound_text}
+use Rattle.cvc_report.specs.Printed.{rule_word}
 use Rattle.cvc_report.specs.Counts.{size_words, errors_line}
 
 -- the main level has no name
@@ -64,16 +65,16 @@ path_words x = codes "ends" ∷ signed_decimal x.first ∷ signed_decimal x.seco
 abbrev pub limit_words : Finding → List (List ℕ)
 limit_words x = codes "limit" ∷ signed_decimal x.first ∷ codes "found" ∷ signed_decimal x.second ∷ []
 
-abbrev pub gate_words : Network → FlatList → Finding → List (List ℕ)
-gate_words c f x = codes "net" ∷ printed_net (net f (gate_of (slice_get c.devices x.device.0))) ∷ []
+-- what stands behind the rule, the device and its model, where the net at its gate has this name
+abbrev pub details_with : List ℕ → Finding → Rule → List (List ℕ)
+details_with gate x PossibleLeak = leak_words x
+details_with gate x SureLeak = leak_words x
+details_with gate x SupplyPath = path_words x
+details_with gate x FloatingGate = codes "net" ∷ gate ∷ []
+details_with gate x _ = limit_words x
 
--- what stands behind the rule, the device and its model
 abbrev pub details : Network → FlatList → Finding → Rule → List (List ℕ)
-details c f x PossibleLeak = leak_words x
-details c f x SureLeak = leak_words x
-details c f x SupplyPath = path_words x
-details c f x FloatingGate = gate_words c f x
-details c f x _ = limit_words x
+details c f x rule = details_with (printed_net (net f (gate_of (slice_get c.devices x.device.0)))) x rule
 
 abbrev pub finding_line : Network → FlatList → Finding → List ℕ
 finding_line c f x = line (rule_word x.rule ∷ printed_device (device f x.device.0) ∷ (device f x.device.0).model ∷ details c f x x.rule)

@@ -4,7 +4,7 @@ use Rattle.std.specs.List.{flat_map}
 use Rattle.cvc_base.specs.declared.finding.Finding.{Finding}
 use Rattle.cvc_law.specs.Network.{Network}
 use Rattle.cvc_law.specs.Rules.{all_rules}
-use Rattle.cvc_report.specs.Lines.{line}
+use Rattle.cvc_text.specs.Lines.{line}
 use Rattle.cvc_report.specs.Counts.{size_words, count_line, errors_line}
 
 abbrev pub survey_line : ℕ → ℕ → List ℕ

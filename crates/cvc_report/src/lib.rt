@@ -8,8 +8,7 @@ mod printed;
 mod refusal;
 mod report;
 mod summary;
-mod writer;
 
-pub use refusal::{write_refusal, write_word_refusal};
+pub use refusal::{write_line_refusal, write_refusal, write_word_refusal};
 pub use report::write_report;
 pub use summary::write_summary;

@@ -1,9 +1,8 @@
-//! How files, rules and bounds are printed.
+//! How files and rules are printed.
 ghost use Rattle.std.specs.Prelude.{◌≡◌};
-ghost use Rattle.cvc_report.specs.Printed.{file_word, rule_word, bound_text};
+ghost use Rattle.cvc_report.specs.Printed.{file_word, rule_word};
 
-use cvc_base::{FileKind, Mv, Rule};
-use itoa::Buffer;
+use cvc_base::{FileKind, Rule};
 
 /// The word for an input file.
 pub(crate) fn word_for_file(file: FileKind) -> &'static [u8]
@@ -33,15 +32,5 @@ pub(crate) fn word_for_rule(rule: Rule) -> &'static [u8]
         Rule::SupplyPath => b"supply-path",
         Rule::FloatingGate => b"floating-gate",
         Rule::SureLeak => b"sure-leak",
-    }
-}
-
-/// The millivolts of a bound, or the sign of one that is unknown.
-pub(crate) fn text_for_bound(buffer: &mut Buffer, voltage: Option<Mv>) -> &[u8]
-    ensures { result.now ≡ bound_text voltage }
-{
-    match voltage {
-        Some(v) => buffer.format(v.get()).as_bytes(),
-        None => b"?",
     }
 }
