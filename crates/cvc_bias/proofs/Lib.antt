@@ -1,4 +1,2 @@
 pub mod AtDevice
-pub mod Ranges
-pub mod Parts
-pub mod Shared
+pub mod Listed

@@ -1,4 +1,2 @@
 pub mod Bias
 pub mod Measured
-pub mod Found
-pub mod Parts

@@ -4,10 +4,7 @@
 
 mod at;
 mod excess;
-mod found;
 mod list;
-mod parallel;
 
 pub use at::bias_at;
-pub use list::list_bias;
-pub use parallel::par_list_bias;
+pub use list::{list_bias, par_list_bias};

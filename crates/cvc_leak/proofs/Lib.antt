@@ -1,5 +1,3 @@
 pub mod AtDevice
-pub mod Ranges
 pub mod Leaks
-pub mod Parts
-pub mod Shared
+pub mod Listed

@@ -1,4 +1,2 @@
 pub mod Leak
 pub mod Figures
-pub mod Found
-pub mod Parts

@@ -5,11 +5,8 @@
 mod at;
 mod channel;
 mod figures;
-mod found;
 pub mod laws;
 mod list;
-mod parallel;
 
 pub use at::leak_at;
-pub use list::list_leak;
-pub use parallel::par_list_leak;
+pub use list::{list_leak, par_list_leak};
