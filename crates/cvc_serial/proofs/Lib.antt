@@ -1,5 +1,8 @@
-pub mod Depends
-pub mod Widens
-pub mod Settles
-pub mod Openings
 pub mod Levels
+pub mod Kept
+pub mod Starting
+pub mod Derives
+pub mod Widens
+pub mod Logging
+pub mod Settles
+pub mod Supplies

@@ -1,4 +1,5 @@
-pub mod Pending
 pub mod Widening
+pub mod Derivation
+pub mod Starting
 pub mod Settling
-pub mod Opening
+pub mod Supplies

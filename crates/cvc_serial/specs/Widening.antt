@@ -14,10 +14,8 @@ with_bound i slot v = if slot % 2 == 0 then record { low = Some v; high = i.high
 
 -- the net that the slot gives to, and its interval with what the slot gives in place of the bound, which didn't cover that
 pub record IsWidening (c : Network) (f : List Interval) (d : Device) (k : ℕ) (w : Widening) : Type 0 where
-  pub value : ℤ
   pub net : w.bound.net.0 ≡ target d k
-  pub side : w.bound.is_high ≡ (k % 2 == 1)
   pub free : is_declared c (target d k) ≡ false
-  pub is_given : given c d k (reads_of f d) ≡ Some value
-  pub not_covered : Covers (interval_at f (target d k)) k value → ⊥
-  pub interval : w.interval ≡ with_bound (interval_at f (target d k)) k value
+  pub is_given : given c d k (reads_of f d) ≡ Some w.value
+  pub not_covered : Covers (interval_at f (target d k)) k w.value → ⊥
+  pub interval : w.interval ≡ with_bound (interval_at f (target d k)) k w.value
