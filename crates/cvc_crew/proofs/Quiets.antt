@@ -1,5 +1,5 @@
 -- A trail is quiet where a part of it is.
-use Rattle.std.proofs.Common.{◌≡◌, List, [], ◌∷◌, ◌++◌, true, arith, refl, sym, subst}
+use Rattle.std.proofs.Common.{ℕ, ◌≡◌, List, [], ◌∷◌, ◌++◌, true, arith, refl, sym, subst}
 use Rattle.std.proofs.lemmas.Grind.{common_steps}
 use Rattle.cvc_law.specs.Network.{Network}
 use Rattle.cvc_field.specs.declared.turn.Turn.{Turn}
@@ -17,8 +17,8 @@ quiet_after [] es q = q
 quiet_after (e ∷ old) es q = grind (arith, common_steps, quiet_after old es q)
 
 -- after a turn that ends its worker the hand is quiet
-pub ends_quiet : (c : Network) (t : Turn) (old es : List Entry) → IsTurn c t es → next_of t ≡ End → is_quiet (old ++ es) ≡ true
-ends_quiet c Worked old es did is = cc
-ends_quiet c Idle old es did is = cc
-ends_quiet c Quiet old es did is =
+pub ends_quiet : (c : Network) (first : ℕ) (t : Turn) (old es : List Entry) → IsTurn c first t es → next_of t ≡ End → is_quiet (old ++ es) ≡ true
+ends_quiet c first Worked old es did is = cc
+ends_quiet c first Idle old es did is = cc
+ends_quiet c first Quiet old es did is =
     quiet_after old es (subst (λ (x : List Entry). is_quiet x ≡ true) (sym did.1) (quiet_after did.0 (Counted 0 ∷ []) refl))

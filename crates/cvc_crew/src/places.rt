@@ -1,5 +1,5 @@
 //! Where a worker looks for a device.
-ghost use Rattle.std.specs.Prelude.{◌≡◌, ◌<◌, ◌≤◌, ◌+◌, ◌*◌, ◌/◌, ◌%◌, ◌⊎◌, length, IfSome};
+ghost use Rattle.std.specs.Prelude.{◌≡◌, ◌==◌, ◌<◌, ◌≤◌, ◌+◌, ◌*◌, ◌/◌, ◌%◌, ◌⊎◌, length, IfSome, if◌then◌else◌};
 
 use crossbeam_deque::{Steal, Stealer, Worker};
 use cvc_base::DevId;
@@ -38,10 +38,11 @@ fn scan_start(devices: u32, workers: u32, worker: u32, turn: u64) -> u32
     ((own + turn % devices) % devices) as u32
 }
 
-/// Where a worker's scan begins, if there are any devices.
+/// Where a worker's scan begins; 0 where there are no devices.
 pub(crate) fn scan_place(devices: u32, workers: u32, worker: u32, turn: u64) -> u32
     requires { worker < workers }
-    ensures { (result < devices) ⊎ (devices ≡ 0) }
+    ensures place { result ≡ (if devices == 0 then 0 else (worker * devices / workers + turn) % devices) }
+    ensures device { (result < devices) ⊎ (devices ≡ 0) }
 {
     if devices == 0 {
         return 0;

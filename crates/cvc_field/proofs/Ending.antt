@@ -16,15 +16,17 @@ use Rattle.cvc_law.specs.ReachWord.{word_of, bound_in}
 use Rattle.cvc_law.proofs.ReachValues.{low_of_reach, high_of_reach}
 use Rattle.cvc_law.proofs.ReachAgree.{interval_of}
 use Rattle.cvc_law.proofs.ReachWords.{bound_in_word}
-use Rattle.cvc_core.specs.State.{BoundWord}
+use Rattle.cvc_core.specs.State.{Machine, BoundWord}
 use Rattle.cvc_core.proofs.Quiet.{quiet-least_intervals}
 use Rattle.cvc_core.proofs.InMillivolts.{sound_family, sound_within}
 use Rattle.cvc_field.specs.declared.view.View.{View}
 use Rattle.cvc_field.specs.Words.{intervals_from, last_intervals, IsStoredWord}
+use Rattle.cvc_field.specs.History.{trail_in}
 use Rattle.cvc_field.specs.Trail.{is_quiet, gave}
 use Rattle.cvc_field.specs.Field.{ViewFits, IsSoundField}
 use Rattle.cvc_field.specs.Hands.{HandView, idle_view}
 use Rattle.cvc_field.specs.Seats.{side_number, bound_index}
+use Rattle.cvc_field.specs.Closings.{HasHistory}
 use Rattle.cvc_field.proofs.Bounds.{within_words}
 use Rattle.cvc_field.proofs.Stepping.{bound_word}
 
@@ -98,7 +100,7 @@ module _ (c : Network) (hands id : ℕ) (v : View) (ws : List ℕ) (xs : List (U
   at : get_elem? s.views id ≡ some v
   at = final.1.1
 
-  fit : ViewFits c hands h.machine h.owner id v
+  fit : ViewFits c hands h.machine (trail_in c hands h.history) h.owner id v
   fit = h.each id v at live
 
   abbrev bounds : List ℕ
@@ -124,6 +126,9 @@ module _ (c : Network) (hands id : ℕ) (v : View) (ws : List ℕ) (xs : List (U
 
   pub last_least : is_quiet v.trail ≡ true → IsLeast c (last_intervals (nets c) ws)
   last_least quiet = subst (IsLeast c) (sym family_is) (quiet-least_intervals c h.machine h.sound (fit.quiet quiet))
+
+  pub last_history : HasHistory c hands v.trail (last_intervals (nets c) ws)
+  last_history = (h.history, h.happened, subst (λ (k : ℕ). v.trail ≡ trail_in c hands h.history k) first fit.told, family_is ∙ ap (λ (m : Machine). intervals c m.bounds) h.replayed)
 
   gave_it : (b : ℕ) → is_declared_bound c b ≡ false → 0 < slice_index bounds b → gave b (slice_index bounds b) v.trail ≡ true
   gave_it b free known = let t = h.given b free known in let u = h.each t.0 t.1 t.2 t.3 in let some_u = u.some_number in let within_u = u.within in
@@ -161,3 +166,6 @@ module _ (key c : Network) (hands id : ℕ) (me : Me (Unit {0}) View) (hand : Ha
 
   pub hand_given : (n : ℕ) (side : Side) (x : ℤ) → n < nets c → is_declared c n ≡ false → bound_on (side_number side) (interval_at (last_intervals (nets c) ws) n) ≡ Some x → gave (bound_index n side) (reach_of c (side_number side) (Some x)) hand.trail ≡ true
   hand_given = last_given c hands id (idle_view hand) ws xs final' refl first whole
+
+  pub hand_history : HasHistory c hand.numbers hand.trail (last_intervals (nets c) ws)
+  hand_history = subst (λ (n : ℕ). HasHistory c n hand.trail (last_intervals (nets c) ws)) (sym whole) (last_history c hands id (idle_view hand) ws xs final' refl first whole)

@@ -1,5 +1,5 @@
 -- The words at the start are a sound field.
-use Rattle.std.proofs.Common.{add-one, append_assoc, take, ◌≡◌, ℕ, zero, suc, ◌+◌, ◌*◌, ◌/◌, ◌-◌, ◌%◌, ◌<◌, ◌≤◌, false, List, [], ◌∷◌, ◌++◌, length, slice_index, slice_index_or, get_or, Option, None, replicate, arith, ap, refl, sym, subst, ◌∙◌, length-append, true≢false}
+use Rattle.std.proofs.Common.{add-one, append_assoc, take, ◌≡◌, ℕ, zero, suc, ◌+◌, ◌*◌, ◌/◌, ◌-◌, ◌%◌, ◌<◌, ◌≤◌, List, [], ◌∷◌, ◌++◌, length, slice_index, slice_index_or, get_or, Option, None, replicate, arith, ap, refl, sym, subst, ◌∙◌, length-append, true≢false}
 use Rattle.std.proofs.lemmas.List.{length-replicate, get_or_append_left}
 use mathlib.Core.Option.{some, some-injective, some-ne-none}
 use lib.ListN.{get_elem?}
@@ -18,7 +18,7 @@ use Rattle.cvc_field.specs.declared.view.View.{View}
 use Rattle.cvc_field.specs.Words.{word_index, word_at}
 use Rattle.cvc_field.specs.Views.{first_view}
 use Rattle.cvc_field.specs.Words.{IsPlace}
-use Rattle.cvc_field.specs.Field.{ViewFits, IsSoundField, Somewhere}
+use Rattle.cvc_field.specs.Field.{ViewFits, IsSoundField}
 use Rattle.cvc_field.specs.Words.{word_row, start_words}
 
 length-word_row : (xs : List (Option Fixed)) → length (word_row xs) ≡ 2 * length xs
@@ -56,29 +56,33 @@ replicate_absent zero k h = h
 replicate_absent (suc n) zero h = h
 replicate_absent (suc n) (suc k) h = replicate_absent n k h
 
-first_seat : (v : View) (hands k : ℕ) → v.spent ≡ false → v.first ≡ 0 → IsPresent (get_or (Idle 0 ∷ replicate (hands - 1) Absent) k Absent) → Somewhere (v ∷ []) (λ u. u.first ≡ k)
-first_seat v hands zero live first present = (0, v, refl, live, first)
-first_seat v hands (suc k) live first present = absurd (replicate_absent (hands - 1) k present)
+only_first : (hands k : ℕ) → IsPresent (get_or (Idle 0 ∷ replicate (hands - 1) Absent) k Absent) → 0 ≡ k
+only_first hands zero present = refl
+only_first hands (suc k) present = absurd (replicate_absent (hands - 1) k present)
 
 pub opens : (c : Network) (hands : ℕ) → IsCircuit c.fixed c.devices → IsInMillion c → 0 < hands → hands ≤ 64 → IsSoundField c hands (opening (start_words c) [] (first_view c hands))
 unfolding start
 opens c hands circuit range some_hand few = let v : View = first_view c hands in record {
+  history = [];
+  happened = tt;
   machine = start c hands;
+  replayed = refl;
   sound = start_sound c hands circuit few;
   range = range;
   actors = let n = length-replicate (hands - 1) Absent in omega arith;
   words = let a = length-append (word_row c.fixed) (replicate (devices c) 1) in let b = length-word_row c.fixed in let one : ℕ = 1 in let d : length (replicate (devices c) one) ≡ devices c = length-replicate (devices c) one in omega arith;
   word_is = λ q is. start_word c hands q circuit is;
   owner = λ k. 0;
-  each = λ j u e live. let t = only_one v u j e in subst (λ (z : ℕ × View). ViewFits c hands (start c hands) (λ k. 0) z.0 z.1) (λ k. (sym t.0 k, t.1 k)) record {
+  each = λ j u e live. let t = only_one v u j e in subst (λ (z : ℕ × View). ViewFits c hands (start c hands) (λ k. []) (λ k. 0) z.0 z.1) (λ k. (sym t.0 k, t.1 k)) record {
     some_number = some_hand;
     within = omega arith;
     owns = λ k a b. refl;
     actor = refl;
+    told = refl;
     covers = tt;
     quiet = λ h. absurd (true≢false (sym h));
   };
-  seated = λ k present. first_seat v hands k refl refl present;
+  dealt = λ k lt. (0, v, refl, refl, record { above = omega arith; below = omega arith; only_first = only_first hands k });
   given = λ b free known. absurd (let none = start_unknown c hands b free in omega arith);
 }
 

@@ -3,10 +3,8 @@ use Rattle.std.proofs.Common.{◌≡◌, ℕ, ◌+◌, ◌%◌, Option, subst, B
 use Rattle.std.specs.Prelude.{ℤ}
 use Rattle.cvc_law.specs.Network.{Network}
 use Rattle.cvc_law.specs.Reach.{reach_of}
-use Rattle.cvc_law.specs.ReachWord.{bound_in}
-use Rattle.cvc_core.specs.State.{BoundWord}
-use Rattle.cvc_field.specs.Trail.{EachAtMost, WithinClosed}
-use Rattle.cvc_field.specs.Views.{Told}
+use Rattle.cvc_law.specs.ReachWord.{bound_in, reach_in}
+use Rattle.cvc_field.specs.Trail.{EachAtMost}
 use Rattle.atomic_table.specs.declared.shared.Seat.{Seat}
 use Rattle.cvc_core.specs.declared.actor.Actor.TheVariants.{Idle}
 use Rattle.cvc_field.specs.declared.view.View.{View}
@@ -85,5 +83,5 @@ pub joined_trail : (h g : HandView) (t u r : Seat (Unit {0}) View) (n m : ℕ) (
 joined_trail h g t u r n m q p a b both = ap (λ (v : View). v.trail) (both ∙ (λ k. both_of (a.1 k).0 (b.1 k).0))
 
 -- what a load between two runs tells of the bound that it gives
-pub read_told : (c : Network) (es : List Entry) (b n s r : ℕ) (o : Option ℤ) → b ≡ n → b % 2 ≡ s → o ≡ bound_in (b % 2) r → Told c es (BoundWord b) r → EachAtMost c n (reach_of c s o) es × WithinClosed c n (reach_of c s o)
-read_told c es b n s r o e side is t = subst (λ (z : ℕ × ℕ × Option ℤ). EachAtMost c z.0 (reach_of c z.1 z.2) es × WithinClosed c z.0 (reach_of c z.1 z.2)) (λ k. (e k, side k, sym is k)) (t.1, t.2)
+pub read_seen : (c : Network) (es : List Entry) (b n s r : ℕ) (o : Option ℤ) → b ≡ n → b % 2 ≡ s → o ≡ bound_in (b % 2) r → EachAtMost c b (reach_in c (b % 2) r) es → EachAtMost c n (reach_of c s o) es
+read_seen c es b n s r o e side is t = subst (λ (z : ℕ × ℕ × Option ℤ). EachAtMost c z.0 (reach_of c z.1 z.2) es) (λ k. (e k, side k, sym is k)) t

@@ -1,5 +1,5 @@
 -- Each step of a seat keeps the rule.
-use Rattle.std.proofs.Common.{◌≡◌, ◌≢◌, ℕ, ◌+◌, ◌%◌, ◌<◌, ◌≤◌, max, Bool, true, false, ◌||◌, List, [], ◌∷◌, ◌++◌, length, slice_index, set, arith, ap, refl, sym, subst, ◌∙◌, ⊎_elim, length-set, get_or-set_same, get_or-set_other, true≢false, eqb-true}
+use Rattle.std.proofs.Common.{◌≡◌, ◌≢◌, ℕ, ◌%◌, ◌<◌, ◌≤◌, max, Bool, true, false, ◌||◌, List, [], ◌∷◌, ◌++◌, length, slice_index, set, arith, ap, refl, sym, subst, ◌∙◌, ⊎_elim, length-set, get_or-set_same, get_or-set_other, true≢false, eqb-true}
 use mathlib.Core.Option.{some}
 use mathlib.Core.Logic.{dite}
 use native.Mathlib.Decide.{ℕ_discrete}
@@ -23,16 +23,17 @@ use Rattle.cvc_core.proofs.Quiet.{count-le, step_stays}
 use Rattle.cvc_core.proofs.Moving.{found-put_same, found-put_other, bound_moves, bounds_widen}
 use Rattle.atomic_table.specs.declared.shared.Seat.{Seat}
 use Rattle.cvc_field.specs.declared.field.Field.{Field}
-use Rattle.cvc_field.specs.Seats.{IsSeatOf}
+use Rattle.cvc_field.specs.Seats.{IsSeatOf, MayMove}
 use Rattle.cvc_field.specs.declared.view.View.{View}
 use Rattle.cvc_field.specs.declared.view.Entry.{Entry}
 use Rattle.cvc_field.specs.declared.view.Entry.TheVariants.{Loaded, Gave, Added, Queued, Took, Dropped, Subtracted, Counted, Looked}
 use Rattle.cvc_field.specs.Words.{word_index, word_at, value_in}
+use Rattle.cvc_field.specs.History.{Happening, Stepped, replay, trail_in}
 use Rattle.cvc_field.specs.Trail.{entry_of, Covers, CoversEach, SawAtMost, EachAtMost, WithinClosed, counted_zero, is_quiet, gave}
 use Rattle.cvc_field.specs.Views.{advance, IsBoundWord, Told, Tells}
 use Rattle.cvc_field.specs.Words.{IsPlace}
-use Rattle.cvc_field.specs.Field.{ViewFits, IsSoundField, Known, Moves}
-use Rattle.cvc_field.proofs.Trails.{value_in-word_at, same_place, index_within, covers_each_more, covers-append, quiet-append, gave-append_left, gave-append_right, gave_one, elem_within, somewhere_set}
+use Rattle.cvc_field.specs.Field.{ViewFits, HasNumber, IsSoundField, Known, Moves}
+use Rattle.cvc_field.proofs.Trails.{value_in-word_at, same_place, index_within, covers_each_more, covers-append, quiet-append, gave-append_left, gave-append_right, gave_one, same_number, other_number, elem_within, somewhere_set}
 
 -- what the step saw and gave is covered afterwards
 entry_covers : (c : Network) (m : Machine) (k : ℕ) (i : Intent) (a : Actor) (r : ℕ) → length m.bounds ≡ width c → IsPlace c (place_of c i a) → value_in c (place_of c i a) r ≡ found m (place_of c i a)
@@ -90,8 +91,20 @@ module _ (hands : ℕ) (s : State (Unit {0}) View) (id : ℕ) (v : View) (i : In
   abbrev w : View
   w = advance i v r
 
-  fit : ViewFits c hands m h.owner id v
+  abbrev hs : List Happening
+  hs = Stepped v.first i r ∷ h.history
+
+  abbrev trails : ℕ → List Entry
+  trails = trail_in c hands h.history
+
+  abbrev trails' : ℕ → List Entry
+  trails' = trail_in c hands hs
+
+  fit : ViewFits c hands m trails h.owner id v
   fit = h.each id v at live
+
+  at_replay : actor_at (replay c hands h.history) v.first ≡ v.actor
+  at_replay = ap (λ (z : Machine). actor_at z v.first) (sym h.replayed) ∙ fit.actor
 
   here : v.first < length m.actors
   here = let f = fit in let a = f.within in let b = f.some_number in let d = h.actors in omega arith
@@ -102,29 +115,39 @@ module _ (hands : ℕ) (s : State (Unit {0}) View) (id : ℕ) (v : View) (i : In
   stays : m.count ≡ 0 → m'.count ≡ 0
   stays = λ none. (step_stays c m h.sound none v.first i v.actor fit.actor al).2 ∙ none
 
-  mine : ViewFits c hands m' h.owner id w
+  mine : ViewFits c hands m' trails' h.owner id w
   unfolding advance
   mine = let f = fit in record {
     some_number = f.some_number;
     within = f.within;
     owns = f.owns;
     actor = get_or-set_same m.actors v.first (new_actor c i v.actor x) Absent here ∙ ap (new_actor c i v.actor) (sym back);
+    told = (λ k. f.told k ++ entry_of c i (sym at_replay k) r ∷ []) ∙ sym (same_number v.first (trails v.first ++ entry_of c i (actor_at (replay c hands h.history) v.first) r ∷ []) (trails v.first));
     covers = covers-append c m'.bounds v.trail (entry_of c i v.actor r ∷ []) (covers_each_more c m.bounds m'.bounds (bounds_widen c m v.first i v.actor) v.trail f.covers)
         (entry_covers c m v.first i v.actor r h.sound.in_range.bounds.every_bound inside back, tt);
     quiet = λ z. stays (⊎_elim f.quiet (λ (t : is_quiet (entry_of c i v.actor r ∷ []) ≡ true). entry_quiet c m i v.actor r back (or-false (counted_zero (entry_of c i v.actor r)) t)) (quiet-append v.trail (entry_of c i v.actor r ∷ []) z));
   }
 
-  others : (j : ℕ) (u : View) → j ≢ id → ViewFits c hands m h.owner j u → ViewFits c hands m' h.owner j u
+  others : (j : ℕ) (u : View) → j ≢ id → ViewFits c hands m trails h.owner j u → ViewFits c hands m' trails' h.owner j u
   others j u apart old = let f = fit in
       let first_is : h.owner v.first ≡ id = (let p = f.some_number in f.owns v.first (omega arith) (omega arith)) in
-      let other_is : h.owner u.first ≡ j = (let p = old.some_number in old.owns u.first (omega arith) (omega arith)) in record {
+      let other_is : h.owner u.first ≡ j = (let p = old.some_number in old.owns u.first (omega arith) (omega arith)) in
+      let elsewhere : u.first ≢ v.first = (λ e. apart (sym other_is ∙ (ap h.owner e ∙ first_is))) in record {
         some_number = old.some_number;
         within = old.within;
         owns = old.owns;
-        actor = get_or-set_other m.actors v.first u.first (new_actor c i v.actor x) Absent (λ e. apart (sym other_is ∙ (ap h.owner e ∙ first_is))) ∙ old.actor;
+        actor = get_or-set_other m.actors v.first u.first (new_actor c i v.actor x) Absent elsewhere ∙ old.actor;
+        told = old.told ∙ sym (other_number u.first v.first (trails v.first ++ entry_of c i (actor_at (replay c hands h.history) v.first) r ∷ []) (trails u.first) elsewhere);
         covers = covers_each_more c m.bounds m'.bounds (bounds_widen c m v.first i v.actor) u.trail old.covers;
         quiet = λ z. stays (old.quiet z);
       }
+
+  numbered : (k : ℕ) → k ≢ v.first → (u : View) → HasNumber m k u → HasNumber m' k u
+  numbered k other u z = record {
+    above = z.above;
+    below = z.below;
+    only_first = λ p. z.only_first (subst IsPresent (get_or-set_other m.actors v.first k (new_actor c i v.actor x) Absent other) p);
+  }
 
   there : get_elem? (set s.views id w) id ≡ some w
   there = set_here s.views id w (elem_within s.views id v at)
@@ -137,7 +160,10 @@ module _ (hands : ℕ) (s : State (Unit {0}) View) (id : ℕ) (v : View) (i : In
   pub moved_keeps : (cs : List (ℕ × Unit {0})) → IsSoundField c hands (stepped s (word_index c q) (word_at c q n) id cs w keeps)
   unfolding advance
   moved_keeps cs = let a' : Actor = new_actor c i v.actor x in record {
+    history = hs;
+    happened = (h.happened, subst (λ (t : Machine × Actor). IsAllowed c i t.1 (found t.0 (place_of c i t.1)) × (r ≡ word_at c (place_of c i t.1) (found t.0 (place_of c i t.1)))) (λ k. (h.replayed k, sym at_replay k)) (al, r_is));
     machine = m';
+    replayed = λ k. step_by c (h.replayed k) v.first i (sym at_replay k);
     range = h.range;
     sound = core_keeps c m v.first i v.actor h.sound here fit.actor al;
     actors = length-set m.actors v.first a' ∙ h.actors;
@@ -151,12 +177,11 @@ module _ (hands : ℕ) (s : State (Unit {0}) View) (id : ℕ) (v : View) (i : In
         (λ d is. let t : d < devices c = subst (IsPlace c) is inside in let l = h.sound.form.every_device in omega arith)))))
         (λ ne. get_or-set_other s.words (word_index c q) (word_index c p) (word_at c q n) 0 ne ∙ (h.word_is p isp ∙ ap (word_at c p) (sym (found-put_other m q p n v.first a' (λ e. ne (ap (word_index c) e))))));
     owner = h.owner;
-    each = λ j u e l. ⊎_elim (λ (t : (j ≡ id) × (w ≡ u)). subst (λ (z : ℕ × View). ViewFits c hands m' h.owner z.0 z.1) (λ k. (sym t.0 k, t.1 k)) mine)
+    each = λ j u e l. ⊎_elim (λ (t : (j ≡ id) × (w ≡ u)). subst (λ (z : ℕ × View). ViewFits c hands m' trails' h.owner z.0 z.1) (λ k. (sym t.0 k, t.1 k)) mine)
         (λ (t : (j ≢ id) × (get_elem? s.views j ≡ some u)). others j u t.0 (h.each j u t.1 l)) (at_set s.views id j w u e);
-    seated = λ k present. dite (ℕ_discrete k v.first)
-        (λ same. (id, w, there, live, sym same))
-        (λ other. somewhere_set (λ u. u.first ≡ k) (λ u. u.first ≡ k) s.views id v w at live (λ z. z) (λ u z. z)
-        (h.seated k (subst IsPresent (get_or-set_other m.actors v.first k a' Absent other) present)));
+    dealt = λ k lt. dite (ℕ_discrete k v.first)
+        (λ same. (id, w, there, live, let n = fit.some_number in record { above = omega arith; below = omega arith; only_first = λ p. sym same }))
+        (λ other. somewhere_set (HasNumber m k) (HasNumber m' k) s.views id v w at live (λ z. let y = numbered k other v z in record { above = y.above; below = y.below; only_first = y.only_first }) (numbered k other) (h.dealt k lt));
     given = λ b free known. ⊎_elim
         (λ (same : slice_index m'.bounds b ≡ slice_index m.bounds b).
         somewhere_set (λ u. gave b (slice_index m.bounds b) u.trail ≡ true) (λ u. gave b (slice_index m'.bounds b) u.trail ≡ true) s.views id v w at live
@@ -211,7 +236,7 @@ step_keeps hands slots id me word f means live moves s h homes at small =
     let v : View = me.0 in let c : Network = v.circuit in let q : Place = moves.place in let r : ℕ = slice_index s.words word in let i : Intent = means r in
     let e : place_of c i v.actor ≡ q = moves.same_place r in
     let r_is : r ≡ word_at c q (found h.machine q) = ap (slice_index s.words) moves.at ∙ h.word_is q moves.is_place in
-    let fit : ViewFits c hands h.machine h.owner id v = h.each id v at live in
+    let fit : ViewFits c hands h.machine (trail_in c hands h.history) h.owner id v = h.each id v at live in
     let here : v.first < length h.machine.actors = (let a = fit.within in let b = fit.some_number in let d = h.actors in omega arith) in
     let known : Known c hands v.actor q r = subst (Known c hands v.actor q) (sym r_is) (is_known c hands h.machine v.first v.actor h.range h.sound h.actors here fit.actor q) in
     let value : value_in c q r ≡ found h.machine q = ap (value_in c q) r_is ∙ value_in-word_at c h.machine h.range h.sound q in
@@ -227,15 +252,13 @@ step_keeps hands slots id me word f means live moves s h homes at small =
       (refl, subst (λ (p : Place). Told c v.trail p r) (sym e) (subst (Told c v.trail q) (sym r_is) (is_told c h.machine v.trail h.range h.sound fit.covers fit.quiet q))),
     )
 
--- what a step of the table asks, where the table's circuit and the view's are the field's
-pub step_asks : (key c : Network) (hands slots words id : ℕ) (me : Me (Unit {0}) View) (word : ℕ) (f : ℕ → ℕ) (means : ℕ → Intent) → key ≡ c → words ≡ 1 + width c + devices c → me.0.circuit ≡ c → me.0.spent ≡ false
-    → Moves c hands me.0 word f means → (word < words) × Allows (IsSoundField key hands) slots id me word f (λ r after. (after ≡ (advance (means r) me.0 r, me.1)) × Tells (means r) me.0 r)
-step_asks key c hands slots words id me word f means about sized own live moves =
-    let inside = index_within c moves.place moves.is_place in let at = moves.at in (
-      omega arith,
-      subst (λ (z : Network). Allows (IsSoundField z hands) slots id me word f (λ r after. (after ≡ (advance (means r) me.0 r, me.1)) × Tells (means r) me.0 r)) (own ∙ sym about)
-          (step_keeps hands slots id me word f means live (subst (λ (z : Network). Moves z hands me.0 word f means) (sym own) moves)),
-    )
+-- the rule allows each step that is meant
+pub asks : (f : Field) (t : Seat (Unit {0}) View) → IsSeatOf f t → (word : ℕ) (change : ℕ → ℕ) (means : ℕ → Intent) → Moves f.circuit.now f.table.shared.key.hands t.me.0 word change means → MayMove f t word change means
+asks f t seat word change means moves = let c : Network = f.circuit.now in let hands : ℕ = f.table.shared.key.hands in let inside = index_within c moves.place moves.is_place in let at = moves.at in let sized = f.sized in (
+  omega arith,
+  subst (λ (z : Network). Allows (IsSoundField z hands) f.table.shared.table_id.slots t.id t.me word change (λ r after. (after ≡ (advance (means r) t.me.0 r, t.me.1)) × Tells (means r) t.me.0 r)) (seat.2 ∙ sym f.about)
+      (step_keeps hands f.table.shared.table_id.slots t.id t.me word change means seat.3 (subst (λ (z : Network). Moves z hands t.me.0 word change means) (sym seat.2) moves)),
+)
 
 -- the seat is the field's after a step
 pub still_seated : (f : Field) (t u : Seat (Unit {0}) View) (i : Intent) (r : ℕ) → IsSeatOf f t → u.table_id ≡ t.table_id → u.me ≡ (advance i t.me.0 r, t.me.1) → IsSeatOf f u

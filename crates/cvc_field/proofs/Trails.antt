@@ -1,5 +1,5 @@
 -- Laws of words, trails and lists of views.
-use Rattle.std.proofs.Common.{◌≡◌, ℕ, zero, suc, ◌+◌, ◌%◌, ◌<◌, Bool, true, false, ◌||◌, List, [], ◌∷◌, ◌++◌, length, slice_index, set, le_trans, arith, ap, refl, sym, subst, ◌∙◌, ◌⊎◌, inl, inr, eq-eqb, true≢false}
+use Rattle.std.proofs.Common.{◌≡◌, ℕ, zero, suc, ◌+◌, ◌%◌, ◌<◌, Bool, true, false, ◌||◌, List, [], ◌∷◌, ◌++◌, length, slice_index, set, le_trans, arith, ap, refl, sym, subst, ◌∙◌, ◌⊎◌, inl, inr, eq-eqb, ne_eqb, true≢false, cond, ◌==◌, ◌≢◌}
 use mathlib.Core.Option.{some, some-injective, some-ne-none}
 use mathlib.Core.Logic.{dite}
 use native.Mathlib.Decide.{ℕ_discrete}
@@ -96,6 +96,13 @@ gave-append_right b x (e ∷ es) ds h = rw (gave-append_right b x es ds h) (or-t
 
 pub gave_one : (b x r : ℕ) → gave b x (Gave b x r ∷ []) ≡ true
 gave_one b x r = rw (eq-eqb b b refl, eq-eqb x x refl) refl
+
+module _ {A : Type 0} where
+  pub same_number : (k : ℕ) (x y : A) → cond (k == k) x y ≡ x
+  same_number k x y = rw (eq-eqb k k refl) refl
+
+  pub other_number : (j k : ℕ) (x y : A) → j ≢ k → cond (j == k) x y ≡ y
+  other_number j k x y apart = rw (ne_eqb j k apart) refl
 
 pub elem_within : {A : Type 0} (l : List A) (i : ℕ) (a : A) → get_elem? l i ≡ some a → i < length l
 elem_within [] i a e = absurd (some-ne-none a (sym e))

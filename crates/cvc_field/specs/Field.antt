@@ -13,18 +13,27 @@ use Rattle.cvc_core.specs.State.{Machine, Place, CountWord, BoundWord, MarkWord,
 use Rattle.cvc_core.specs.Steps.{place_of, new_word, IsAllowed, IsPresent}
 use Rattle.cvc_core.specs.Sound.{Sound}
 use Rattle.cvc_field.specs.declared.view.View.{View}
+use Rattle.cvc_field.specs.declared.view.Entry.{Entry}
 use Rattle.cvc_field.specs.Words.{IsPlace, word_index, word_at, value_in}
+use Rattle.cvc_field.specs.History.{Happening, IsHistory, replay, trail_in}
 use Rattle.cvc_field.specs.Trail.{CoversEach, is_quiet, gave}
 use Rattle.cvc_field.specs.Views.{IsBoundWord}
 
--- what holds of the view v of the seat j: its numbers are its own, the first of them is at what the view says, and the trail is true
-pub record ViewFits (c : Network) (hands : ℕ) (m : Machine) (owner : ℕ → ℕ) (j : ℕ) (v : View) : Type 0 where
+-- what holds of the view v of the seat j: its numbers are its own, the first of them is at what the view says, and the trail is that of the history
+pub record ViewFits (c : Network) (hands : ℕ) (m : Machine) (trails : ℕ → List Entry) (owner : ℕ → ℕ) (j : ℕ) (v : View) : Type 0 where
   pub some_number : 0 < v.numbers
   pub within : v.first + v.numbers ≤ hands
   pub owns : (k : ℕ) → v.first ≤ k → k < v.first + v.numbers → owner k ≡ j
   pub actor : actor_at m v.first ≡ v.actor
+  pub told : v.trail ≡ trails v.first
   pub covers : CoversEach c m.bounds v.trail
   pub quiet : is_quiet v.trail ≡ true → m.count ≡ 0
+
+-- the number k is one of the view's, and only the first of these is at work
+pub record HasNumber (m : Machine) (k : ℕ) (v : View) : Type 0 where
+  pub above : v.first ≤ k
+  pub below : k < v.first + v.numbers
+  pub only_first : IsPresent (actor_at m k) → v.first ≡ k
 
 -- a table without slots, whose seats are the hands
 abbrev St : Type 0
@@ -35,7 +44,11 @@ abbrev pub Somewhere : List View → (View → Type 0) → Type 0
 Somewhere views P = (j : ℕ) × (v : View) × (get_elem? views j ≡ some v) × (v.spent ≡ false) × P v
 
 pub record IsSoundField (c : Network) (hands : ℕ) (s : St) : Type 0 where
+  -- all that happened so far, and the machine that it led to
+  pub history : List Happening
+  pub happened : IsHistory c hands history
   pub machine : Machine
+  pub replayed : machine ≡ replay c hands history
   pub sound : Sound c machine
   pub range : IsInMillion c
   pub actors : length machine.actors ≡ hands
@@ -43,9 +56,9 @@ pub record IsSoundField (c : Network) (hands : ℕ) (s : St) : Type 0 where
   pub word_is : (q : Place) → IsPlace c q → slice_index s.words (word_index c q) ≡ word_at c q (found machine q)
   -- the seat that has each actor number
   pub owner : ℕ → ℕ
-  pub each : (j : ℕ) (v : View) → get_elem? s.views j ≡ some v → v.spent ≡ false → ViewFits c hands machine owner j v
-  -- each actor that is not absent is the first number of some view
-  pub seated : (k : ℕ) → IsPresent (actor_at machine k) → Somewhere s.views (λ v. v.first ≡ k)
+  pub each : (j : ℕ) (v : View) → get_elem? s.views j ≡ some v → v.spent ≡ false → ViewFits c hands machine (trail_in c hands history) owner j v
+  -- each number is one of some view's, and its actor is absent unless it is the first of them
+  pub dealt : (k : ℕ) → k < hands → Somewhere s.views (HasNumber machine k)
   -- each known bound that is not declared is what some step gave
   pub given : (b : ℕ) → is_declared_bound c b ≡ false → 0 < slice_index machine.bounds b → Somewhere s.views (λ v. gave b (slice_index machine.bounds b) v.trail ≡ true)
 

@@ -1,5 +1,6 @@
 pub mod Words
 pub mod Trail
+pub mod History
 pub mod Views
 pub mod Field
 pub mod Hands

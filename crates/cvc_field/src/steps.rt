@@ -2,8 +2,7 @@
 ghost use Rattle.std.specs.Prelude.{◌≡◌, ℕ, ◌+◌, ◌-◌, ◌%◌, ◌^◌, ◌==◌, min, max, bit_and, bit_or};
 ghost use prog.Atomic.{either};
 ghost use Rattle.cvc_field.specs.Views.{advance, Tells};
-ghost use Rattle.cvc_field.specs.Field.{Moves};
-ghost use Rattle.cvc_field.specs.Seats.{IsSeatOf};
+ghost use Rattle.cvc_field.specs.Seats.{IsSeatOf, MayMove};
 
 use crate::field::Field;
 use crate::plays::{Does, Means};
@@ -19,7 +18,7 @@ impl<'c> Field<'c> {
         meant: Intent,
     ) -> u64
         requires seat { IsSeatOf self.now seat.old }
-        requires moves { Moves self.now.circuit.now self.now.table.shared.key.hands seat.old.me.0 word (λ n. n) W.intent }
+        requires moves { MayMove self.now seat.old word (λ n. n) W.intent }
         ensures seat { IsSeatOf self.now seat.new }
         ensures step { seat.new.me.0 ≡ advance (W.intent result) seat.old.me.0 result }
         ensures told { Tells (W.intent result) seat.old.me.0 result }
@@ -35,7 +34,7 @@ impl<'c> Field<'c> {
         k: u64,
     ) -> u64
         requires seat { IsSeatOf self.now seat.old }
-        requires moves { Moves self.now.circuit.now self.now.table.shared.key.hands seat.old.me.0 word (λ n. min n k) W.intent }
+        requires moves { MayMove self.now seat.old word (λ n. min n k) W.intent }
         ensures seat { IsSeatOf self.now seat.new }
         ensures step { seat.new.me.0 ≡ advance (W.intent result) seat.old.me.0 result }
         ensures told { Tells (W.intent result) seat.old.me.0 result }
@@ -51,7 +50,7 @@ impl<'c> Field<'c> {
         k: u64,
     ) -> u64
         requires seat { IsSeatOf self.now seat.old }
-        requires moves { Moves self.now.circuit.now self.now.table.shared.key.hands seat.old.me.0 word (λ n. max n k) W.intent }
+        requires moves { MayMove self.now seat.old word (λ n. max n k) W.intent }
         ensures seat { IsSeatOf self.now seat.new }
         ensures step { seat.new.me.0 ≡ advance (W.intent result) seat.old.me.0 result }
         ensures told { Tells (W.intent result) seat.old.me.0 result }
@@ -67,7 +66,7 @@ impl<'c> Field<'c> {
         k: u64,
     ) -> u64
         requires seat { IsSeatOf self.now seat.old }
-        requires moves { Moves self.now.circuit.now self.now.table.shared.key.hands seat.old.me.0 word (λ n. (n + k) % 2 ^ 64) W.intent }
+        requires moves { MayMove self.now seat.old word (λ n. (n + k) % 2 ^ 64) W.intent }
         ensures seat { IsSeatOf self.now seat.new }
         ensures step { seat.new.me.0 ≡ advance (W.intent result) seat.old.me.0 result }
         ensures told { Tells (W.intent result) seat.old.me.0 result }
@@ -83,7 +82,7 @@ impl<'c> Field<'c> {
         k: u64,
     ) -> u64
         requires seat { IsSeatOf self.now seat.old }
-        requires moves { Moves self.now.circuit.now self.now.table.shared.key.hands seat.old.me.0 word (λ n. (n + (2 ^ 64 - k)) % 2 ^ 64) W.intent }
+        requires moves { MayMove self.now seat.old word (λ n. (n + (2 ^ 64 - k)) % 2 ^ 64) W.intent }
         ensures seat { IsSeatOf self.now seat.new }
         ensures step { seat.new.me.0 ≡ advance (W.intent result) seat.old.me.0 result }
         ensures told { Tells (W.intent result) seat.old.me.0 result }
@@ -99,7 +98,7 @@ impl<'c> Field<'c> {
         k: u64,
     ) -> u64
         requires seat { IsSeatOf self.now seat.old }
-        requires moves { Moves self.now.circuit.now self.now.table.shared.key.hands seat.old.me.0 word (λ n. bit_and n k) W.intent }
+        requires moves { MayMove self.now seat.old word (λ n. bit_and n k) W.intent }
         ensures seat { IsSeatOf self.now seat.new }
         ensures step { seat.new.me.0 ≡ advance (W.intent result) seat.old.me.0 result }
         ensures told { Tells (W.intent result) seat.old.me.0 result }
@@ -115,7 +114,7 @@ impl<'c> Field<'c> {
         k: u64,
     ) -> u64
         requires seat { IsSeatOf self.now seat.old }
-        requires moves { Moves self.now.circuit.now self.now.table.shared.key.hands seat.old.me.0 word (λ n. bit_or n k) W.intent }
+        requires moves { MayMove self.now seat.old word (λ n. bit_or n k) W.intent }
         ensures seat { IsSeatOf self.now seat.new }
         ensures step { seat.new.me.0 ≡ advance (W.intent result) seat.old.me.0 result }
         ensures told { Tells (W.intent result) seat.old.me.0 result }
@@ -133,7 +132,7 @@ impl<'c> Field<'c> {
         new: u64,
     ) -> u64
         requires seat { IsSeatOf self.now seat.old }
-        requires moves { Moves self.now.circuit.now self.now.table.shared.key.hands seat.old.me.0 word (λ n. either (n == old) new n) W.intent }
+        requires moves { MayMove self.now seat.old word (λ n. either (n == old) new n) W.intent }
         ensures seat { IsSeatOf self.now seat.new }
         ensures step { seat.new.me.0 ≡ advance (W.intent result) seat.old.me.0 result }
         ensures told { Tells (W.intent result) seat.old.me.0 result }

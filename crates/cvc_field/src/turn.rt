@@ -115,7 +115,8 @@ impl<'c> Field<'c> {
         requires idle { seat.old.me.0.actor ≡ Resting 0 }
         requires empty { tray.old.items ≡ [] }
         ensures seat { IsSeatOf self.now seat.new }
-        ensures done { (es : List Entry) × (seat.new.me.0 ≡ grown seat.old.me.0 es) × IsTurn self.now.circuit.now result es × (tray.new.items ≡ tray_of es) }
+        ensures done { (es : List Entry) × (seat.new.me.0 ≡ grown seat.old.me.0 es) × IsTurn self.now.circuit.now first result es
+            × (tray.new.items ≡ tray_of es) }
     {
         let devices = self.circuit.devices();
         if self.scan(seat, first, devices, tray) {
@@ -155,7 +156,7 @@ impl<'c> Field<'c> {
         requires first { (first < devices self.now.circuit.now) ⊎ (devices self.now.circuit.now ≡ 0) }
         ensures hand { IsHandOf self.now hand.new }
         ensures range { (hand.new.first ≡ hand.old.first) × (hand.new.numbers ≡ hand.old.numbers) }
-        ensures turn { (es : List Entry) × (hand.new ≡ record hand.old { trail = hand.old.trail ++ es }) × IsTurn self.now.circuit.now result es
+        ensures turn { (es : List Entry) × (hand.new ≡ record hand.old { trail = hand.old.trail ++ es }) × IsTurn self.now.circuit.now first result es
             × (tray.new.items ≡ tray_of es) }
     {
         tray.clear();

@@ -8,4 +8,4 @@ pub returns-clause-quiet : goal.returns-clause-quiet
 returns-clause-quiet g c is =
     let did = c.turn.ensures.turn in
     subst (λ (h : HandView). is_quiet h.trail ≡ true) (sym did.1)
-    (ends_quiet c.args.shared.now.field.now.circuit.now c.turn.result c.args.hand.now.trail did.0 did.2 (sym c.after.ensures ∙ is))
+    (ends_quiet c.args.shared.now.field.now.circuit.now c.scan_place-first.result c.turn.result c.args.hand.now.trail did.0 did.2 (sym c.after.ensures ∙ is))

@@ -1,9 +1,5 @@
-use Rattle.cvc_field.proofs.Stepping.{step_asks, still_seated}
+use Rattle.cvc_field.proofs.Stepping.{still_seated}
 use Rattle.cvc_field.proofs.field.Field.compare_exchange_as.Goals as goal
-
-pub compare_exchange-requires : goal.compare_exchange-requires
-compare_exchange-requires g c = let f = c.args.self.now in let asks = step_asks f.table.shared.key.circuit.value f.circuit.now f.table.shared.key.hands f.table.shared.table_id.slots f.table.shared.table_id.words c.args.seat.now.id c.args.seat.now.me _ _ _ f.about f.sized c.requires.seat.2 c.requires.seat.3 c.requires.moves in
-    (c.requires.seat.0, asks.0, asks.1)
 
 pub returns-clause-seat : goal.returns-clause-seat
 returns-clause-seat g c = still_seated c.args.self.now c.args.seat.now c.compare_exchange.new.seat _ _ c.requires.seat c.compare_exchange.ensures.0 c.compare_exchange.ensures.2.0

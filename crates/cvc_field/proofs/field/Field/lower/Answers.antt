@@ -1,3 +1,4 @@
+use Rattle.cvc_field.proofs.Stepping.{asks}
 use Rattle.std.proofs.Common.{refl, [], ap, ◌∙◌, ◌+◌, ◌<◌, ℕ, subst}
 use Rattle.cvc_law.specs.Reach.{width}
 use Rattle.cvc_field.proofs.Meaning.{lowers, told_widen}
@@ -6,7 +7,8 @@ use Rattle.cvc_field.proofs.Going.{goes_step}
 use Rattle.cvc_field.proofs.field.Field.lower.Goals as goal
 
 pub fetch_min_as-requires-clause-moves : goal.fetch_min_as-requires-clause-moves
-fetch_min_as-requires-clause-moves c = lowers c.args.self.now.circuit.now c.args.self.now.table.shared.key.hands c.args.seat.now.me.0 c.args.slot _ c.args.operand (c.bound_word-word.ensures.0 ∙ ap (λ (b : ℕ). 1 + b) c.requires.bound.1) (subst (λ (b : ℕ). b < width c.args.self.now.circuit.now) c.requires.bound.1 c.requires.bound.0) c.requires.bound.2 c.requires.operand.1 c.requires.operand.0 c.requires.allowed
+fetch_min_as-requires-clause-moves c = asks c.args.self.now c.args.seat.now c.requires.seat _ _ _
+    (lowers c.args.self.now.circuit.now c.args.self.now.table.shared.key.hands c.args.seat.now.me.0 c.args.slot _ c.args.operand (c.bound_word-word.ensures.0 ∙ ap (λ (b : ℕ). 1 + b) c.requires.bound.1) (subst (λ (b : ℕ). b < width c.args.self.now.circuit.now) c.requires.bound.1 c.requires.bound.0) c.requires.bound.2 c.requires.operand.1 c.requires.operand.0 c.requires.allowed)
 
 pub returns-clause-word : goal.returns-clause-word
 returns-clause-word c = told_widen c.args.self.now.circuit.now c.args.seat.now.me.0 c.args.slot c.args.bound c.fetch_min_as.result c.requires.seat.2 c.requires.bound.1 c.fetch_min_as.ensures.told

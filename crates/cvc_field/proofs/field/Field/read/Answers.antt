@@ -1,5 +1,5 @@
 use Rattle.std.proofs.Common.{◌%◌, arith}
-use Rattle.cvc_field.proofs.Bounds.{within_words}
+use Rattle.cvc_field.proofs.Bounds.{within_words, read_known, read_within}
 use Rattle.std.proofs.Common.{◌≡◌, ◌+◌, ◌≤◌, ◌∷◌, ◌++◌, [], ℕ, sym, ap, ◌∙◌, subst}
 use Rattle.cvc_law.specs.ReachWord.{bound_in}
 use Rattle.cvc_core.specs.declared.actor.Intent.TheVariants.{Peek}
@@ -8,7 +8,7 @@ use Rattle.cvc_field.specs.declared.view.Entry.TheVariants.{Loaded}
 use Rattle.cvc_field.specs.Views.{Told, advance}
 use Rattle.cvc_field.specs.Hands.{HandView, hand_of, IsWithin}
 use Rattle.cvc_field.specs.Seats.{bound_index}
-use Rattle.cvc_field.proofs.Parts.{peeked, read_told}
+use Rattle.cvc_field.proofs.Parts.{peeked, read_seen}
 use Rattle.cvc_field.proofs.field.Field.read.Goals as goal
 use Rattle.cvc_field.proofs.field.Field.read.Goals.{After-bound_in}
 
@@ -32,10 +32,13 @@ told : (c : After-bound_in) → Told c.args.self.now.circuit.now c.args.hand.now
 told c = subst (λ (h : HandView). Told c.args.self.now.circuit.now h.trail (BoundWord c.bound_index-bound.result) c.peek-word.result) c.hand.view_is c.peek-word.ensures.told
 
 pub returns-clause-seen : goal.returns-clause-seen
-returns-clause-seen c = (read_told c.args.self.now.circuit.now c.args.hand.now.trail c.bound_index-bound.result _ _ c.peek-word.result c.bound_in.result c.bound_index-bound.ensures.index c.bound_index-bound.ensures.side c.bound_in.ensures (told c)).0
+returns-clause-seen c = read_seen c.args.self.now.circuit.now c.args.hand.now.trail c.bound_index-bound.result _ _ c.peek-word.result c.bound_in.result c.bound_index-bound.ensures.index c.bound_index-bound.ensures.side c.bound_in.ensures (told c).1
+
+pub returns-clause-known : goal.returns-clause-known
+returns-clause-known c = read_known c.args.self.now.circuit.now c.nets-circuit.ensures.circuit c.args.n.0 c.args.side c.bound_index-bound.result c.peek-word.result c.bound_in.result c.bound_index-bound.ensures.index c.bound_index-bound.ensures.side c.bound_in.ensures (told c).0
 
 pub returns-clause-within : goal.returns-clause-within
-returns-clause-within c = (read_told c.args.self.now.circuit.now c.args.hand.now.trail c.bound_index-bound.result _ _ c.peek-word.result c.bound_in.result c.bound_index-bound.ensures.index c.bound_index-bound.ensures.side c.bound_in.ensures (told c)).1
+returns-clause-within c = read_within c.args.self.now.circuit.now c.nets-circuit.ensures.circuit c.args.n.0 c.args.side c.bound_index-bound.result c.peek-word.result c.bound_in.result c.bound_index-bound.ensures.index c.bound_index-bound.ensures.side c.bound_in.ensures (told c).0 (told c).2
 
 pub bound_in-requires : goal.bound_in-requires
 bound_in-requires c = within_words c.args.self.now.circuit.now (c.bound_index-bound.result % 2) c.peek-word.result (omega arith) c.peek-word.ensures.told.0
