@@ -1,8 +1,6 @@
 -- A circuit of a flat list has its nets and its devices, each with the same pins.
 use Rattle.std.proofs.Common.{◌≡◌, Bool, true, false, List, [], ◌∷◌, length, map, refl, sym, ap, subst, ◌∙◌}
 use Rattle.std.specs.Prelude.{Option, Some, None, Result, Ok, Err, slice_get, if◌then◌else◌}
-use Rattle.std.specs.List.{range_with_len}
-use Rattle.std.proofs.lemmas.List.FromFn.{length-map-range_with_len}
 use Rattle.cvc_base.specs.declared.cause.Cause.TheVariants.{WrongKind}
 use Rattle.cvc_base.specs.declared.fault.Fault.{Fault}
 use Rattle.cvc_base.specs.Verdicts.{in_front, rows_or_fault}
@@ -14,8 +12,6 @@ use Rattle.cvc_law.specs.declared.interval.Fixed.{Fixed}
 use Rattle.cvc_model.specs.declared.models.Choice.{Choice}
 use Rattle.cvc_model.specs.declared.models.Choice.TheVariants.{Chosen, Nothing, WordMet}
 use Rattle.cvc_model.specs.declared.row.ModelRow.{ModelRow}
-use Rattle.cvc_power.specs.declared.row.PowerRow.{PowerRow}
-use Rattle.cvc_bind.specs.Declared.{declared, fixed_of, rows_fault, unless_fault}
 use Rattle.cvc_bind.specs.Devices.{at_card, device_choice, device_of, devices_of, fits, with_choice, with_row}
 
 module _ (rows : List ModelRow) (d : FlatDevice) (x : Device) where
@@ -51,14 +47,7 @@ all_pins rows (d ∷ ds) devices e = by (device_of rows d) refl (rows_or_fault (
     by (Ok x) at (Err fault) rest later h = cc
     by (Err fault) at rest rests later h = cc
 
-all_nets : (f : FlatList) (power : List PowerRow) (fixed : List (Option Fixed)) → fixed_of f power ≡ Ok fixed → length fixed ≡ length f.nets
-all_nets f power fixed e = by (rows_fault f [] power) e
-  where
-    by : (o : Option Fault) → unless_fault o (map (declared f power) (range_with_len 0 (length f.nets))) ≡ Ok fixed → length fixed ≡ length f.nets
-    by None h = let same : map (declared f power) (range_with_len 0 (length f.nets)) ≡ fixed = cc in ap length (sym same) ∙ length-map-range_with_len (declared f power) 0 (length f.nets)
-    by (Some fault) h = cc
-
-pub bound : (f : FlatList) (models : List ModelRow) (power : List PowerRow) (fixed : List (Option Fixed)) (devices : List Device) (c : Network) → devices_of f models ≡ Ok devices → fixed_of f power ≡ Ok fixed
+pub bound : (f : FlatList) (models : List ModelRow) (fixed : List (Option Fixed)) (devices : List Device) (c : Network) → devices_of f models ≡ Ok devices → length fixed ≡ length f.nets
     → c ≡ record { fixed = fixed; devices = devices } → IsBound (length f.nets) (map (λ (d : FlatDevice). d.pins) f.devices) c
-bound f models power fixed devices c made put e =
-    subst (IsBound (length f.nets) (map (λ (d : FlatDevice). d.pins) f.devices)) (sym e) record { every_net = all_nets f power fixed put; every_device = all_pins models f.devices devices made }
+bound f models fixed devices c made sized e =
+    subst (IsBound (length f.nets) (map (λ (d : FlatDevice). d.pins) f.devices)) (sym e) record { every_net = sized; every_device = all_pins models f.devices devices made }

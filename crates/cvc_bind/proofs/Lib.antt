@@ -1,5 +1,7 @@
 pub mod Verdicts
 pub mod Sound
 pub mod Found
-pub mod Supplies
+pub mod Marks
+pub mod Naming
+pub mod Spreading
 pub mod BoundCircuits

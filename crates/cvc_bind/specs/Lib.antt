@@ -1,5 +1,5 @@
 pub mod Devices
 pub mod Choices
-pub mod Declared
-pub mod Putting
+pub mod Nets
+pub mod DeclaredNets
 pub mod Bound

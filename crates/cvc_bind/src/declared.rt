@@ -1,17 +1,24 @@
 //! What the nets are declared at.
-ghost use Rattle.std.specs.Prelude.{◌≡◌, ◌≤◌, length, All, IfErr, IfOk, OnOk};
+ghost use Rattle.std.specs.Prelude.{◌≡◌, ◌<◌, ◌≤◌, length, map, All, IfOk};
+ghost use Rattle.std.specs.List.{range_with_len};
 ghost use Rattle.cvc_base.specs.Answers.{Gives};
-ghost use Rattle.cvc_base.specs.Faults.{fault_on};
-ghost use Rattle.cvc_base.specs.declared.fault.FileKind.TheVariants.{Power};
-ghost use Rattle.cvc_bind.specs.Declared.{AreOrdered, fixed_of, span_of};
-ghost use Rattle.cvc_bind.specs.Putting.{put};
+ghost use Rattle.cvc_bind.specs.DeclaredNets.{AreOrdered, declared, fault_of_name, fixed_of, span_of};
 ghost use Rattle.cvc_power.specs.Power.{IsOrdered};
 
-use cvc_base::{Cause, Fault, FileKind, Refusal};
+use crate::nets::{Misnamed, Named, nets_of};
+use cvc_base::{Fault, FileKind, NetId, NoMemory, Refusal};
 use cvc_flat::Flat;
 use cvc_law::Fixed;
 use cvc_power::{Power, PowerRow};
 use std::alloc::Global;
+
+impl Named for PowerRow {
+    ghost net_name = { λ row. row.name };
+
+    fn net_name(&self) -> &[u8] {
+        self.name.bytes()
+    }
+}
 
 fn span_of(row: &PowerRow) -> Fixed
     ensures { result ≡ span_of row.now }
@@ -22,28 +29,33 @@ fn span_of(row: &PowerRow) -> Fixed
     }
 }
 
-// The net that the row's name finds takes its voltages.
-#[tactic(auto, using(crate::proofs::Found::net_inside), unfolding(crate::specs::Putting::put))]
-fn declare(flat: &Flat, fixed: &mut [Option<Fixed>], row: &PowerRow) -> Result<(), Cause>
-    requires { length fixed.old ≡ length flat.now.list.nets }
-    ensures put { OnOk result (put flat.now.list fixed.old row.now ≡ Ok fixed.new) }
-    ensures refused { IfErr result (λ cause. put flat.now.list fixed.old row.now ≡ Err cause) }
+fn fault_of_name(rows: &[PowerRow], bad: Misnamed) -> Fault
+    requires { bad.place < length rows.now }
+    ensures { result ≡ fault_of_name rows.now bad }
 {
-    let Some(net) = flat.find_net(row.name.bytes()) else {
-        return Err(Cause::UnknownNet);
-    };
-    let place = net.0 as usize;
-    if fixed[place].is_some() {
-        return Err(Cause::SameNetTwice);
-    }
-    fixed[place] = Some(span_of(row));
-    Ok(())
+    Fault::at(FileKind::Power, rows[bad.place].line, bad.cause)
 }
 
-fn row_fault(row: &PowerRow, cause: Cause) -> Fault
-    ensures { result ≡ fault_on Power row.now.line cause }
+// What so many nets are declared at by rows that declare these nets. The first row of a net counts, so they are put from the last on.
+fn spread(
+    alloc: Global,
+    count: usize,
+    nets: &[NetId],
+    rows: &[PowerRow],
+) -> Result<Vec<Option<Fixed>>, NoMemory>
+    requires each { length nets.now ≡ length rows.now }
+    requires inside { All (λ net. net.0 < count) nets.now }
+    requires ordered { All IsOrdered rows.now }
+    ensures fixed { IfOk result (λ fixed. fixed.items ≡ map (declared nets.now rows.now) (range_with_len 0 count)) }
+    ensures sized { IfOk result (λ fixed. length fixed.items ≡ count) }
+    ensures ordered { IfOk result (λ fixed. AreOrdered fixed.items) }
 {
-    Fault::at(FileKind::Power, row.line, cause)
+    let mut fixed = vec![in alloc; None; count]?;
+    for place in (0..rows.len()).rev() {
+        let net = nets[place];
+        fixed[net.0 as usize] = Some(span_of(&rows[place]));
+    }
+    Ok(fixed)
 }
 
 /// What each net is declared at, or the first fault among the rows.
@@ -58,11 +70,9 @@ pub(crate) fn declared(
     ensures sized { IfOk result (λ fixed. length fixed.items ≡ length flat.now.list.nets) }
     ensures ordered { IfOk result (λ fixed. AreOrdered fixed.items) }
 {
-    let mut fixed = vec![in alloc; None; flat.nets() as usize]?;
-    for row in power.as_slice() {
-        if let Err(cause) = declare(flat, &mut fixed, row) {
-            return Err(Refusal::At(row_fault(row, cause)));
-        }
+    let rows = power.as_slice();
+    match nets_of(alloc, flat, rows)? {
+        Ok(nets) => Ok(spread(alloc, flat.nets() as usize, &nets, rows)?),
+        Err(bad) => Err(Refusal::At(fault_of_name(rows, bad))),
     }
-    Ok(fixed)
 }

@@ -1,10 +1,12 @@
-//! Binding: the circuit of a flat list, model rows and power rows, or the first fault.
+//! Binding: the circuit of a flat list, model rows and power rows, or the first fault; and the nets that the names of rows find.
 //!
-//! `bind` answers exactly as the written definition in `specs/` says.
+//! `bind` and `nets_of` answer exactly as the written definitions in `specs/` say.
 #![tactic(auto)]
 
 mod binding;
 mod declared;
 mod devices;
+mod nets;
 
 pub use binding::bind;
+pub use nets::{Misnamed, Named, nets_of};

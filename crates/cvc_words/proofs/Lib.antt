@@ -1,4 +1,3 @@
 pub mod Worked
 pub mod Digits
-pub mod Limits
 pub mod Stepping

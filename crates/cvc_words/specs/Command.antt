@@ -1,15 +1,16 @@
 -- What the words of the command line ask for: a command, or the first fault among the words. The first word names the command. The words that the
--- command must have come next: names of files, which may look like anything, or numbers. All later words are the command's options.
-use Rattle.std.specs.Prelude.{ℕ, ◌≤◌, true, false, List, [], ◌∷◌, Option, Some, unwrap_or, Result, Ok, Err, codes, if◌then◌else◌}
+-- command must have come next: names of files, or numbers. All later words are the command's options.
+use Rattle.std.specs.Prelude.{ℕ, ◌≤◌, true, false, List, [], ◌∷◌, unwrap_or, Result, Ok, Err, codes, slice_index_or, if◌then◌else◌}
 use Rattle.std.specs.Str.{bytes_eq}
 use Rattle.cvc_words.specs.declared.command.Command.{Command}
 use Rattle.cvc_words.specs.declared.command.Command.TheVariants.{Check, Serial, Gen}
 use Rattle.cvc_words.specs.declared.command.Job.{Job}
 use Rattle.cvc_words.specs.declared.fault.WordFault.{WordFault}
-use Rattle.cvc_words.specs.declared.fault.WordFault.TheVariants.{NoCommand, UnknownCommand, MissingWord, BadNumber}
-use Rattle.cvc_words.specs.declared.options.Offered.{Offered}
+use Rattle.cvc_words.specs.declared.fault.WordFault.TheVariants.{NoCommand, UnknownCommand}
+use Rattle.cvc_words.specs.declared.options.Takes.{Takes}
 use Rattle.cvc_words.specs.Number.{number_within}
-use Rattle.cvc_words.specs.Options.{Options, options_of, and_then, most_workers}
+use Rattle.cvc_words.specs.Options.{Options, AreWorkers, given, later_of, options_of}
+use Rattle.cvc_base.specs.Order.{◌>>=◌}
 
 abbrev pub default_workers : ℕ
 default_workers = 4
@@ -24,41 +25,41 @@ most_stages = 200000
 abbrev pub last_seed : ℕ
 last_seed = 18446744073709551615
 
--- ## The options that each command has
+-- ## What each command takes
 
-abbrev pub check_offers : Offered
-check_offers = record { top = true; workers = true; nets = true }
+abbrev pub check_takes : Takes
+check_takes = record { must_have = 3; top = true; workers = true; nets = true }
 
-abbrev pub serial_offers : Offered
-serial_offers = record { top = true; workers = false; nets = true }
+abbrev pub serial_takes : Takes
+serial_takes = record { must_have = 3; top = true; workers = false; nets = true }
 
-abbrev pub gen_offers : Offered
-gen_offers = record { top = false; workers = true; nets = false }
+abbrev pub gen_takes : Takes
+gen_takes = record { must_have = 2; top = false; workers = true; nets = false }
 
 -- ## What each command asks for
 
-abbrev pub job : List ℕ → List ℕ → List ℕ → Options → Job
-job netlist models power options = record { netlist = netlist; models = models; power = power; top = options.top; workers = workers_of options; nets = options.nets }
+-- the word at this place behind the command's name, from 0
+abbrev pub word : ℕ → List (List ℕ) → List ℕ
+word place words = slice_index_or words place []
 
 -- three names of files
-abbrev pub job_of : Offered → List (List ℕ) → Result Job WordFault
-job_of offered (netlist ∷ models ∷ power ∷ later) = and_then (options_of offered later) (λ options. Ok (job netlist models power options))
-job_of offered _ = Err MissingWord
-
-abbrev pub gen_with : Option ℕ → Option ℕ → List (List ℕ) → Result Command WordFault
-gen_with (Some seed) (Some size) later = and_then (options_of gen_offers later) (λ options. Ok (Gen seed size (workers_of options)))
-gen_with _ _ later = Err BadNumber
+abbrev pub job : List (List ℕ) → Options → Job
+job words o = record { netlist = word 0 words; models = word 1 words; power = word 2 words; top = o.top; workers = workers_of o; nets = o.nets }
 
 -- a seed and a number of stages
 abbrev pub gen_of : List (List ℕ) → Result Command WordFault
-gen_of (seed ∷ size ∷ later) = gen_with (number_within 0 last_seed seed) (number_within 1 most_stages size) later
-gen_of _ = Err MissingWord
+gen_of words = do
+  later ← later_of gen_takes words
+  seed ← number_within 0 last_seed (word 0 words)
+  size ← number_within 1 most_stages (word 1 words)
+  options ← options_of gen_takes later
+  Ok (Gen seed size (workers_of options))
 
 -- the words after the command's name
 unfoldable pub command_named : List ℕ → List (List ℕ) → Result Command WordFault
 command_named name words =
-    if bytes_eq name (codes "check") then and_then (job_of check_offers words) (λ job. Ok (Check job))
-    else (if bytes_eq name (codes "serial") then and_then (job_of serial_offers words) (λ job. Ok (Serial job))
+    if bytes_eq name (codes "check") then (given check_takes words >>= λ options. Ok (Check (job words options)))
+    else (if bytes_eq name (codes "serial") then (given serial_takes words >>= λ options. Ok (Serial (job words options)))
     else (if bytes_eq name (codes "gen") then gen_of words
     else Err UnknownCommand))
 
@@ -68,10 +69,6 @@ command_of [] = Err NoCommand
 command_of (name ∷ words) = command_named name words
 
 -- ## The numbers of a command
-
-pub record AreWorkers (n : ℕ) : Type 0 where
-  pub some : 1 ≤ n
-  pub limit : n ≤ most_workers
 
 pub record AreStages (n : ℕ) : Type 0 where
   pub some : 1 ≤ n

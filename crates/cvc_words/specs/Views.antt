@@ -1,11 +1,11 @@
 -- What the answers of the code stand for.
-use Rattle.std.specs.Prelude.{◌≡◌, Result, Ok, Err}
+use Rattle.std.specs.Prelude.{◌≡◌, IfSome, Result, Ok, Err}
 use Rattle.std.specs.Option.{option_map}
 use Rattle.cvc_words.specs.declared.fault.WordFault.{WordFault}
 use Rattle.cvc_words.specs.declared.fault.WordRefusal.{WordRefusal}
 use Rattle.cvc_words.specs.declared.fault.WordRefusal.TheVariants.{At, NoMemory}
 use Rattle.cvc_words.specs.declared.options.Options.{Options as Held}
-use Rattle.cvc_words.specs.Options.{Options}
+use Rattle.cvc_words.specs.Options.{Options, AreWorkers}
 
 -- an answer is this one; want of memory says nothing
 abbrev pub Gives : {A : Type 0} → Result A WordRefusal → Result A WordFault → Type 0
@@ -20,3 +20,7 @@ options_view o = record { top = option_map (λ name. name.now) o.top; workers = 
 abbrev pub options_seen : Result Held WordFault → Result Options WordFault
 options_seen (Ok o) = Ok (options_view o)
 options_seen (Err fault) = Err fault
+
+-- the number of workers, if one was given, is within its limits
+abbrev pub IsLimited : Held → Type 0
+IsLimited o = IfSome o.workers AreWorkers

@@ -1,10 +1,12 @@
 //! Numbers among the words.
-ghost use Rattle.std.specs.Prelude.{◌≡◌, ◌^◌, ◌<◌, ◌≤◌, IsTrue, IfSome};
+ghost use Rattle.std.specs.Prelude.{◌≡◌, ◌^◌, ◌<◌, ◌≤◌, IsTrue, IfOk};
 ghost use Rattle.std.specs.List.{list_all};
 ghost use Rattle.std.specs.Char.{is_ascii_digit};
 ghost use Rattle.std.specs.Option.{SomeIff};
 ghost use Rattle.std.specs.Str.Parse.{digits_value};
 ghost use Rattle.cvc_words.specs.Number.{has_leading_zero, is_number, number_within};
+
+use crate::WordFault;
 
 fn has_leading_zero(text: &[u8]) -> bool
     ensures { result ≡ has_leading_zero text.now }
@@ -38,20 +40,18 @@ fn value_of(digits: &[u8]) -> Option<u64>
     Some(value)
 }
 
-/// The number that a word writes, if it does and the number lies from the least to the greatest.
+/// The number that a word writes, if it does and the number lies from the least to the greatest; else `BadNumber`.
 #[tactic(auto, unfolding(crate::specs::Number::number_within))]
-pub(crate) fn number_within(least: u64, greatest: u64, text: &[u8]) -> Option<u64>
+pub(crate) fn number_within(least: u64, greatest: u64, text: &[u8]) -> Result<u64, WordFault>
     ensures number { result ≡ number_within least greatest text.now }
-    ensures least { IfSome result (λ n. least ≤ n) }
-    ensures greatest { IfSome result (λ n. n ≤ greatest) }
+    ensures least { IfOk result (λ n. least ≤ n) }
+    ensures greatest { IfOk result (λ n. n ≤ greatest) }
 {
     if !is_number(text) {
-        return None;
+        return Err(WordFault::BadNumber);
     }
-    let value = value_of(text)?;
-    if least <= value && value <= greatest {
-        Some(value)
-    } else {
-        None
+    match value_of(text) {
+        Some(value) if least <= value && value <= greatest => Ok(value),
+        _ => Err(WordFault::BadNumber),
     }
 }

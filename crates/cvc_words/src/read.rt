@@ -1,28 +1,32 @@
 //! The command of the words.
-ghost use Rattle.std.specs.Prelude.{◌≡◌, IfOk};
-ghost use Rattle.cvc_words.specs.Command.{IsWithin, command_named, command_of, gen_of, job_of};
-ghost use Rattle.cvc_words.specs.Views.{Gives};
+ghost use Rattle.std.specs.Prelude.{◌≡◌, ◌≤◌, ◌<◌, IfOk, length, slice_index};
+ghost use Rattle.cvc_words.specs.Command.{IsWithin, command_named, command_of, gen_of, job, word};
+ghost use Rattle.cvc_words.specs.Options.{AreWorkers};
+ghost use Rattle.cvc_words.specs.Views.{Gives, IsLimited, options_view};
 
 use crate::number::number_within;
-use crate::options::{Offered, read_options};
+use crate::options::{Options, Takes, later_words, read_given, read_options};
 use crate::{Command, Job, WordFault, WordRefusal};
 use cvc_base::{NoMemory, Text, Texts};
 use std::alloc::Global;
 
-// The options of each command.
-const CHECK_OFFERS: Offered = Offered {
+// What each command takes.
+const CHECK_TAKES: Takes = Takes {
+    must_have: 3,
     top: true,
     workers: true,
     nets: true,
 };
 
-const SERIAL_OFFERS: Offered = Offered {
+const SERIAL_TAKES: Takes = Takes {
+    must_have: 3,
     top: true,
     workers: false,
     nets: true,
 };
 
-const GEN_OFFERS: Offered = Offered {
+const GEN_TAKES: Takes = Takes {
+    must_have: 2,
     top: false,
     workers: true,
     nets: false,
@@ -34,48 +38,44 @@ const DEFAULT_WORKERS: u32 = 4;
 // The most stages of a generated netlist.
 const MOST_STAGES: u64 = 200_000;
 
-fn copy(alloc: Global, text: &Text) -> Result<Text, NoMemory>
-    ensures { IfOk result (λ copied. copied ≡ text.now) }
+// The name of the file at this place.
+fn file(alloc: Global, words: &[Text], place: usize) -> Result<Text, NoMemory>
+    requires { place < length words.now }
+    ensures { IfOk result (λ name. name ≡ word place words.now) }
 {
-    Text::of(alloc, text.bytes())
+    Text::of(alloc, words[place].bytes())
 }
 
-// The job of three file names and options.
-fn read_job(alloc: Global, offered: Offered, words: &[Text]) -> Result<Job, WordRefusal>
-    ensures { Gives result (job_of offered words.now) }
+// The job of three files.
+fn job(alloc: Global, words: &[Text], options: Options) -> Result<Job, NoMemory>
+    requires files { 3 ≤ length words.now }
+    requires limited { IsLimited options }
+    ensures job { IfOk result (λ made. made ≡ job words.now (options_view options.entry)) }
+    ensures limited { IfOk result (λ made. AreWorkers made.workers) }
 {
-    let [netlist, models, power, later @ ..] = words else {
-        return Err(WordFault::MissingWord.into());
-    };
-    let options = read_options(offered, later)?;
     let top = match options.top {
         Some(name) => Some(Text::of(alloc, name)?),
         None => None,
     };
     Ok(Job {
-        netlist: copy(alloc, netlist)?,
-        models: copy(alloc, models)?,
-        power: copy(alloc, power)?,
+        netlist: file(alloc, words, 0)?,
+        models: file(alloc, words, 1)?,
+        power: file(alloc, words, 2)?,
         top,
         workers: options.workers.unwrap_or(DEFAULT_WORKERS),
         nets: options.nets,
     })
 }
 
-// The generated netlist of a seed, a size and options.
+// The generated netlist of a seed and a size.
 fn read_gen(words: &[Text]) -> Result<Command, WordFault>
-    ensures { result ≡ gen_of words.now }
+    ensures command { result ≡ gen_of words.now }
+    ensures within { IfOk result IsWithin }
 {
-    let [seed, size, later @ ..] = words else {
-        return Err(WordFault::MissingWord);
-    };
-    let Some(seed) = number_within(0, u64::MAX, seed.bytes()) else {
-        return Err(WordFault::BadNumber);
-    };
-    let Some(size) = number_within(1, MOST_STAGES, size.bytes()) else {
-        return Err(WordFault::BadNumber);
-    };
-    let options = read_options(GEN_OFFERS, later)?;
+    let later = later_words(GEN_TAKES, words)?;
+    let seed = number_within(0, u64::MAX, words[0].bytes())?;
+    let size = number_within(1, MOST_STAGES, words[1].bytes())?;
+    let options = read_options(GEN_TAKES, later)?;
     Ok(Command::Gen {
         seed,
         size: size as u32,
@@ -86,13 +86,16 @@ fn read_gen(words: &[Text]) -> Result<Command, WordFault>
 // The command of this name, with the words after it.
 #[tactic(auto, unfolding(crate::specs::Command::command_named))]
 fn read_command(alloc: Global, name: &[u8], words: &[Text]) -> Result<Command, WordRefusal>
-    ensures { Gives result (command_named name.now words.now) }
+    ensures command { Gives result (command_named name.now words.now) }
+    ensures within { IfOk result IsWithin }
 {
     if name == b"check".as_slice() {
-        return Ok(Command::Check(read_job(alloc, CHECK_OFFERS, words)?));
+        let options = read_given(CHECK_TAKES, words)?;
+        return Ok(Command::Check(job(alloc, words, options)?));
     }
     if name == b"serial".as_slice() {
-        return Ok(Command::Serial(read_job(alloc, SERIAL_OFFERS, words)?));
+        let options = read_given(SERIAL_TAKES, words)?;
+        return Ok(Command::Serial(job(alloc, words, options)?));
     }
     if name == b"gen".as_slice() {
         return Ok(read_gen(words)?);
