@@ -1,82 +1,165 @@
--- What a run may answer that told its outcome.
+-- What a run may answer that told its ending, and that accepted input is answered.
 use Rattle.std.proofs.Common.{◌≡◌, ℕ, inl, inr, List, [], ◌∷◌, Option, Some, None, refl, sym, ap, subst}
-use Rattle.std.specs.Prelude.{IfSome, IfOk, Result, Ok, Err}
+use Rattle.std.specs.Prelude.{IfSome, IfOk, IsOk, IsSomeAnd, Result, Ok, Err, ◌⊎◌}
 use Rattle.cvc_base.specs.declared.finding.Finding.{Finding}
-use Rattle.cvc_io.specs.Files.{Files}
-use Rattle.cvc_report.specs.Refusals.{refusal}
-use Rattle.cvc_run.specs.Judged.{IsJudged, judged_whole}
-use Rattle.cvc_run.specs.Outcome.{IsOfFiles, IsEnd, JobOutcome, status_of}
-use Rattle.cvc_run.specs.Outside.{Taken, Outcome, Answers, Ends, Wrote}
-use Rattle.cvc_run.specs.Said.{Refused as RefusedBy, Whole, bound_of_job}
+use Rattle.cvc_io.specs.Files.{Counts, Files}
+use Rattle.cvc_law.specs.declared.interval.Interval.{Interval}
+use Rattle.cvc_law.specs.Rules.{findings_of}
+use Rattle.cvc_run.specs.Due.{DueFailed}
+use Rattle.cvc_run.specs.Outcome.{Behind, IsEnd, IsJobOutcome, IsOfFiles, JobOutcome, job_run, refused_ending, report_of, status_of, survey_run, survey_said}
+use Rattle.cvc_run.specs.Outside.{Ending, Ends, MayAnswer, Outcome, SinkFailed, Taken, Wrote, ending}
+use Rattle.cvc_run.specs.Run.{Answers, IsAnswered, no_shelf}
+use Rattle.cvc_run.specs.Said.{Whole, bound_of_job}
+use Rattle.cvc_run.specs.Stages.{status_at}
 use Rattle.cvc_run.specs.Stops.{Says, ReadOnlyWhere}
-use Rattle.cvc_run.specs.Telling.{Told, told_by, text_of_judged}
-use Rattle.cvc_run.specs.declared.judged.Judged.{Judged}
+use Rattle.cvc_run.specs.Telling.{IsChecked, TellsRun, checked_ending, checked_whole, told_by}
+use Rattle.cvc_run.specs.declared.checked.Checked.{Checked}
+use Rattle.cvc_run.specs.declared.checked.Telling.{Telling}
+use Rattle.cvc_run.specs.declared.checked.Telling.TheVariants.{Report, Summary}
+use Rattle.cvc_run.specs.declared.stage.Refused.{Refused}
+use Rattle.cvc_run.specs.declared.stage.Stage.{Stage}
+use Rattle.cvc_run.specs.declared.stage.Stage.TheVariants as stages
 use Rattle.cvc_run.specs.declared.status.Status.{Status}
 use Rattle.cvc_run.specs.declared.status.Status.TheVariants as s
 use Rattle.cvc_run.specs.declared.stop.RunStop.{RunStop}
-use Rattle.cvc_run.specs.declared.stop.RunStop.TheVariants.{Refused, Read, NoMemory}
-use Rattle.cvc_run.specs.declared.telling.Telling.{Telling}
-use Rattle.cvc_run.specs.declared.telling.Telling.TheVariants.{Report}
-use Rattle.cvc_run.proofs.Refusing.{RefusesFiles, bound_refuses}
+use Rattle.cvc_run.specs.declared.stop.RunStop.TheVariants.{At, Read, NoMemory}
 use Rattle.cvc_words.specs.declared.command.Job.{Job}
 
 -- ## A text that was told
 
-told_whole : (outcome : Outcome) (failed : Type 0) (t : Taken) (status : Status) (text : List ℕ) → IsOfFiles status → outcome status text → Wrote t text → Answers outcome failed t status
-told_whole outcome failed t s.Clean text of is wrote = (text, is, wrote)
-told_whole outcome failed t s.Errors text of is wrote = (text, is, wrote)
-told_whole outcome failed t s.Words text of is wrote = absurd of
-told_whole outcome failed t s.Netlist text of is wrote = (text, is, wrote)
-told_whole outcome failed t s.Models text of is wrote = (text, is, wrote)
-told_whole outcome failed t s.Power text of is wrote = (text, is, wrote)
-told_whole outcome failed t s.Binding text of is wrote = (text, is, wrote)
-told_whole outcome failed t s.ReadFault text of is wrote = absurd of
-told_whole outcome failed t s.WriteFault text of is wrote = absurd of
-told_whole outcome failed t s.NoMemory text of is wrote = absurd of
+-- the statuses that come with their whole text
+abbrev IsTold : Status → Type 0
+IsTold s.ReadFault = ⊥
+IsTold s.WriteFault = ⊥
+IsTold s.NoMemory = ⊥
+IsTold _ = Unit {0}
+
+told_whole : (outcome : Outcome) (failed : Type 0) (t : Taken) (status : Status) (text : List ℕ) → IsTold status → outcome (ending status text) → Wrote t text → MayAnswer outcome failed t status
+told_whole outcome failed t s.Clean text told is wrote = (text, is, wrote)
+told_whole outcome failed t s.Errors text told is wrote = (text, is, wrote)
+told_whole outcome failed t s.Words text told is wrote = (text, is, wrote)
+told_whole outcome failed t s.Netlist text told is wrote = (text, is, wrote)
+told_whole outcome failed t s.Models text told is wrote = (text, is, wrote)
+told_whole outcome failed t s.Power text told is wrote = (text, is, wrote)
+told_whole outcome failed t s.Binding text told is wrote = (text, is, wrote)
+told_whole outcome failed t s.ReadFault text told is wrote = absurd told
+told_whole outcome failed t s.WriteFault text told is wrote = absurd told
+told_whole outcome failed t s.NoMemory text told is wrote = absurd told
 
 module _ (outcome : Outcome) (failed : Type 0) (t : Taken) (result : Status) where
-  answers_at : (status : Status) → result ≡ status → Answers outcome failed t status → Answers outcome failed t result
-  answers_at status e h = subst (λ (r : Status). Answers outcome failed t r) (sym e) h
+  answers_at : (status : Status) → result ≡ status → MayAnswer outcome failed t status → MayAnswer outcome failed t result
+  answers_at status e h = subst (λ (r : Status). MayAnswer outcome failed t r) (sym e) h
 
-  told_answers : (status : Status) (text : List ℕ) → IsOfFiles status → outcome status text → Ends status text t result → Answers outcome failed t result
-  told_answers status text of is (inl (e, wrote)) = answers_at status e (told_whole outcome failed t status text of is wrote)
-  told_answers status text of is (inr (e, rose, front)) = answers_at s.WriteFault e (rose, (status, text, is, front))
+  told_answers : (e : Ending) → IsTold e.status → outcome e → Ends e t result → MayAnswer outcome failed t result
+  told_answers e told is (inl (same, wrote)) = answers_at e.status same (told_whole outcome failed t e.status e.text told is wrote)
+  told_answers e told is (inr (same, rose, front)) = answers_at s.WriteFault same (rose, (e, is, front))
 
 -- ## A run that was told
 
-pub status_is_of_files : (found : List Finding) → IsOfFiles (status_of found)
-status_is_of_files [] = tt
-status_is_of_files (x ∷ xs) = tt
+told_at : (stage : Stage) → IsTold (status_at stage)
+told_at stages.Netlist = tt
+told_at stages.Models = tt
+told_at stages.Power = tt
+told_at stages.Binding = tt
+
+told_findings : (found : List Finding) → IsTold (status_of found)
+told_findings [] = tt
+told_findings (x ∷ xs) = tt
 
 -- what a run tells is its outcome
-abbrev pub Stands : Telling → Result Judged RunStop → Outcome → Type 0
-Stands telling (Ok j) outcome = outcome (status_of j.findings) (text_of_judged telling j)
-Stands telling (Err (Refused status fault)) outcome = (told : Status) → IsOfFiles told → (IsOfFiles status → told ≡ status) → outcome told (refusal fault)
-Stands telling (Err Read) outcome = Unit {0}
-Stands telling (Err NoMemory) outcome = Unit {0}
+abbrev pub Stands : Result Checked (RunStop Refused) → Outcome → Type 0
+Stands (Ok c) outcome = outcome (checked_ending c)
+Stands (Err (At r)) outcome = outcome (refused_ending r)
+Stands (Err Read) outcome = Unit {0}
+Stands (Err NoMemory) outcome = Unit {0}
 
-pub run_answers : (telling : Telling) (run : Result Judged RunStop) (outcome : Outcome) (failed : Type 0) (t : Taken) (result : Status) → Stands telling run outcome → ReadOnlyWhere run failed → Told telling run t result → Answers outcome failed t result
-run_answers telling (Ok j) outcome failed t result stands cause told = told_answers outcome failed t result (status_of j.findings) (text_of_judged telling j) (status_is_of_files j.findings) stands told
-run_answers telling (Err (Refused status fault)) outcome failed t result stands cause (told, of, same, ends) = told_answers outcome failed t result told (refusal fault) of (stands told of same) ends
-run_answers telling (Err Read) outcome failed t result stands cause (e, nothing) = answers_at outcome failed t result s.ReadFault e (cause, nothing)
-run_answers telling (Err NoMemory) outcome failed t result stands cause (e, nothing) = answers_at outcome failed t result s.NoMemory e nothing
+run_answers : (run : Result Checked (RunStop Refused)) (outcome : Outcome) (failed : Type 0) (t : Taken) (result : Status) → Stands run outcome → ReadOnlyWhere run failed → TellsRun checked_ending refused_ending run t result
+    → MayAnswer outcome failed t result
+run_answers (Ok c) outcome failed t result stands cause told = told_answers outcome failed t result (checked_ending c) (told_findings c.judged.findings) stands told
+run_answers (Err (At r)) outcome failed t result stands cause told = told_answers outcome failed t result (refused_ending r) (told_at r.stage) stands told
+run_answers (Err Read) outcome failed t result stands cause (e, nothing) = answers_at outcome failed t result s.ReadFault e (cause, nothing)
+run_answers (Err NoMemory) outcome failed t result stands cause (e, nothing) = answers_at outcome failed t result s.NoMemory e nothing
+
+-- ## Accepted input
+
+abbrev IsAccepted : Status → Type 0
+IsAccepted status = (status ≡ s.Clean) ⊎ (status ≡ s.Errors)
+
+clean_or_errors : (found : List Finding) (status : Status) → status ≡ status_of found → IsAccepted status
+clean_or_errors [] status e = inl e
+clean_or_errors (x ∷ xs) status e = inr e
+
+-- an accepted end has a status of accepted input
+end_accepted : (told : Whole → List Interval → List ℕ) (said : Result Whole Refused) (e : Ending) → IsOk said → Behind refused_ending said (IsEnd told) e → IsAccepted e.status
+end_accepted told (Ok w) e ok end = clean_or_errors (findings_of w.circuit end.0) e.status (ap (λ x. x.status) end.2)
+end_accepted told (Err refusal) e ok end = cc
+
+job_accepted : (files : Option Files) (job : Job) (e : Ending) → IsSomeAnd files (λ fs. IsOk (bound_of_job fs job)) → JobOutcome files job e → IsAccepted e.status
+job_accepted None job e ok end = absurd ok
+job_accepted (Some fs) job e ok end = end_accepted (report_of job.nets) (bound_of_job fs job) e ok end.1
+
+answered : (outcome : Outcome) (failed : Type 0) (t : Taken) (status : Status) → ((e : Ending) → outcome e → IsAccepted e.status) → MayAnswer outcome failed t status → (failed → ⊥) → (SinkFailed t → ⊥) → IsAnswered outcome t status
+answered outcome failed t s.Clean only h shelf sink = inr (only (ending s.Clean h.0) h.1, h)
+answered outcome failed t s.Errors only h shelf sink = inr (only (ending s.Errors h.0) h.1, h)
+answered outcome failed t s.Words only h shelf sink = inr (only (ending s.Words h.0) h.1, h)
+answered outcome failed t s.Netlist only h shelf sink = inr (only (ending s.Netlist h.0) h.1, h)
+answered outcome failed t s.Models only h shelf sink = inr (only (ending s.Models h.0) h.1, h)
+answered outcome failed t s.Power only h shelf sink = inr (only (ending s.Power h.0) h.1, h)
+answered outcome failed t s.Binding only h shelf sink = inr (only (ending s.Binding h.0) h.1, h)
+answered outcome failed t s.ReadFault only h shelf sink = absurd (shelf h.0)
+answered outcome failed t s.WriteFault only h shelf sink = absurd (sink h.0)
+answered outcome failed t s.NoMemory only h shelf sink = inl refl
 
 -- ## A run of what the files say
 
-pub end_stands : (telling : Telling) (run : Result Judged RunStop) (said : Result Whole RefusedBy) → RefusesFiles said → IfOk run IsJudged → Says judged_whole run said → Stands telling run (IsEnd (told_by telling) said)
-end_stands telling (Ok j) said refuses judged says =
-    subst (λ (r : Result Whole RefusedBy). IsEnd (told_by telling) r (status_of j.findings) (text_of_judged telling j)) (sym says) (j.family, judged.least, ap status_of judged.found, refl)
-end_stands telling (Err (Refused status fault)) said refuses judged says =
-    λ told of same. subst (λ (r : Result Whole RefusedBy). IsEnd (told_by telling) r told (refusal fault)) (sym says) (same (subst (λ (r : Result Whole RefusedBy). RefusesFiles r) says refuses), refl)
-end_stands telling (Err Read) said refuses judged says = tt
-end_stands telling (Err NoMemory) said refuses judged says = tt
+-- how it ends, where its answer is told so
+ended : (telling : Telling) (c : Checked) (said : Result Whole Refused) → IsChecked c → c.telling ≡ telling → said ≡ Ok (checked_whole c) → Behind refused_ending said (IsEnd (told_by telling)) (checked_ending c)
+ended telling c said checked same says =
+    subst (λ (r : Result Whole Refused). Behind refused_ending r (IsEnd (told_by telling)) (checked_ending c)) (sym says)
+    (c.judged.family, checked.judged.least, λ i. ending (status_of (checked.judged.found i)) (told_by (same i) (checked_whole c) c.judged.family))
 
-pub job_stands : (files : Option Files) (job : Job) (run : Result Judged RunStop) → IfSome files (λ fs. Says judged_whole run (bound_of_job fs job)) → IfOk run IsJudged → Stands (Report job.nets) run (JobOutcome files job)
-job_stands None job (Ok j) says judged = (status_is_of_files j.findings, tt)
-job_stands None job (Err (Refused status fault)) says judged = λ told of same. (of, tt)
-job_stands None job (Err Read) says judged = tt
-job_stands None job (Err NoMemory) says judged = tt
-job_stands (Some fs) job (Ok j) says judged = (status_is_of_files j.findings, end_stands (Report job.nets) (Ok j) (bound_of_job fs job) (bound_refuses _ _ _ _) judged says)
-job_stands (Some fs) job (Err (Refused status fault)) says judged = λ told of same. (of, end_stands (Report job.nets) (Err (Refused status fault)) (bound_of_job fs job) (bound_refuses _ _ _ _) judged says told of same)
-job_stands (Some fs) job (Err Read) says judged = tt
-job_stands (Some fs) job (Err NoMemory) says judged = tt
+refused_so : (told : Whole → List Interval → List ℕ) (r : Refused) (said : Result Whole Refused) → said ≡ Err r → Behind refused_ending said (IsEnd told) (refused_ending r)
+refused_so told r said says = subst (λ (w : Result Whole Refused). Behind refused_ending w (IsEnd told) (refused_ending r)) (sym says) refl
+
+of_findings : (found : List Finding) → IsOfFiles (status_of found)
+of_findings [] = inl refl
+of_findings (x ∷ xs) = inr (inl refl)
+
+of_stage : (stage : Stage) → IsOfFiles (status_at stage)
+of_stage stage = inr (inr (stage, refl))
+
+of_told : (files : Option Files) (P Q : Files → Type 0) → ((fs : Files) → P fs → Q fs) → IfSome files P → IfSome files Q
+of_told None P Q f h = tt
+of_told (Some fs) P Q f h = f fs h
+
+job_stands : (files : Option Files) (job : Job) (run : Result Checked (RunStop Refused)) → IfSome files (λ fs. Says checked_whole run (bound_of_job fs job)) → IfOk run IsChecked → IfOk run (λ c. c.telling ≡ Report job.nets)
+    → Stands run (JobOutcome files job)
+job_stands files job (Ok c) says checked same =
+    (of_findings c.judged.findings, of_told files (λ fs. bound_of_job fs job ≡ Ok (checked_whole c)) (λ fs. IsJobOutcome fs job (checked_ending c)) (λ fs h. ended (Report job.nets) c (bound_of_job fs job) checked same h) says)
+job_stands files job (Err (At r)) says checked same =
+    (of_stage r.stage, of_told files (λ fs. bound_of_job fs job ≡ Err r) (λ fs. IsJobOutcome fs job (refused_ending r)) (λ fs h. refused_so (report_of job.nets) r (bound_of_job fs job) h) says)
+job_stands files job (Err Read) says checked same = tt
+job_stands files job (Err NoMemory) says checked same = tt
+
+survey_stands : (seed size : ℕ) (run : Result Checked (RunStop Refused)) → Says checked_whole run (survey_said seed size) → IfOk run IsChecked → IfOk run (λ c. c.telling ≡ Summary seed size)
+    → Stands run (survey_run seed size).outcome
+survey_stands seed size (Ok c) says checked same = ended (Summary seed size) c (survey_said seed size) checked same says
+survey_stands seed size (Err (At r)) says checked same = refused_so (told_by (Summary seed size)) r (survey_said seed size) says
+survey_stands seed size (Err Read) says checked same = tt
+survey_stands seed size (Err NoMemory) says checked same = tt
+
+-- ## What a run answers
+
+pub job_answers : (files : Option Files) (job : Job) (run : Result Checked (RunStop Refused)) (before after : Counts) (t : Taken) (result : Status) → IfSome files (λ fs. Says checked_whole run (bound_of_job fs job)) → IfOk run IsChecked
+    → IfOk run (λ c. c.telling ≡ Report job.nets) → ReadOnlyWhere run (DueFailed (job_run files job).due before after) → TellsRun checked_ending refused_ending run t result → Answers (job_run files job) before after t result
+job_answers files job run before after t result says checked same cause told =
+    let failed = DueFailed (job_run files job).due before after in
+    let may : MayAnswer (JobOutcome files job) failed t result = run_answers run (JobOutcome files job) failed t result (job_stands files job run says checked same) cause told in
+    (may, λ accepted shelf sink. answered (JobOutcome files job) failed t result (λ e end. job_accepted files job e accepted end) may shelf sink)
+
+pub survey_answers : (seed size : ℕ) (run : Result Checked (RunStop Refused)) (t : Taken) (result : Status) → Says checked_whole run (survey_said seed size) → IfOk run IsChecked → IfOk run (λ c. c.telling ≡ Summary seed size)
+    → ReadOnlyWhere run ⊥ → TellsRun checked_ending refused_ending run t result → Answers (survey_run seed size) no_shelf no_shelf t result
+survey_answers seed size run t result says checked same cause told =
+    let outcome = (survey_run seed size).outcome in
+    let may : MayAnswer outcome ⊥ t result = run_answers run outcome ⊥ t result (survey_stands seed size run says checked same) cause told in
+    (may, λ accepted shelf sink. answered outcome ⊥ t result (λ e end. end_accepted (told_by (Summary seed size)) (survey_said seed size) e accepted end) may shelf sink)

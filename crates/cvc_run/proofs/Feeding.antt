@@ -19,21 +19,22 @@ use Rattle.cvc_cdl.specs.declared.netlist.Netlist.{Netlist}
 use Rattle.cvc_cdl.specs.Builder.{Building, HasBuilt, StandsFor as BuilderStandsFor}
 use Rattle.cvc_cdl.specs.Building.{or_else}
 use Rattle.cvc_cdl.specs.Ending.{ending_fault, reading_of, unless_fault}
-use Rattle.cvc_cdl.specs.File.{ended, entries_from, entries_of, file_of, then_lexical, then_with}
+use Rattle.cvc_cdl.specs.File.{ended, entries_from, entries_of, file_of, then_lexical}
 use Rattle.cvc_cdl.specs.Levels.{Entry}
 use Rattle.cvc_cdl.specs.Netlist.{netlist_of}
 use Rattle.cvc_run.specs.Reader.{Builds, HasCards, HasRead, IsDecided, Passes, StopsAt}
 use Rattle.cvc_run.specs.declared.netlist.NetlistReader.{NetlistReader}
 use Rattle.cvc_run.proofs.Passing.{entries_from-fault}
 use Rattle.cvc_run.proofs.Waiting.{passed, stands_handed, stopped, tokens}
+use Rattle.cvc_base.specs.Order.{◌>>=◌}
 
-entries_by : (bytes : List ℕ) (r : Result (List Entry) Fault) → entries_from [] (closed_at_end NetlistFile bytes) ≡ r → entries_of bytes ≡ then_with r (then_lexical (lexical NetlistFile bytes))
+entries_by : (bytes : List ℕ) (r : Result (List Entry) Fault) → entries_from [] (closed_at_end NetlistFile bytes) ≡ r → entries_of bytes ≡ ◌>>=◌ r (then_lexical (lexical NetlistFile bytes))
 unfolding entries_of
-entries_by bytes r e = ap (λ x. then_with x (then_lexical (lexical NetlistFile bytes))) e
+entries_by bytes r e = ap (λ x. ◌>>=◌ x (then_lexical (lexical NetlistFile bytes))) e
 
-file_by : (bytes : List ℕ) (top : Option (List ℕ)) (r : Result (List Entry) Fault) → entries_of bytes ≡ r → file_of bytes top ≡ then_with r (ended top)
+file_by : (bytes : List ℕ) (top : Option (List ℕ)) (r : Result (List Entry) Fault) → entries_of bytes ≡ r → file_of bytes top ≡ ◌>>=◌ r (ended top)
 unfolding file_of
-file_by bytes top r e = ap (λ x. then_with x (ended top)) e
+file_by bytes top r e = ap (λ x. ◌>>=◌ x (ended top)) e
 
 -- a fault of the lines of the whole file
 file_fault : (bytes : List ℕ) (top : Option (List ℕ)) (fault : Fault) → entries_from [] (closed_at_end NetlistFile bytes) ≡ Err fault → file_of bytes top ≡ Err fault

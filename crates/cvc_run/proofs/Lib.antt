@@ -7,8 +7,7 @@ pub mod Loading
 pub mod Netlists
 pub mod Steps
 pub mod Contents
+pub mod FaultFiles
 pub mod Runs
-pub mod Refusing
 pub mod Ending
-pub mod Answering
-pub mod Told
+pub mod Fronts

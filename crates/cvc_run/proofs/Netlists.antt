@@ -1,7 +1,9 @@
 -- A netlist that is read from a file that stands open.
-use Rattle.std.proofs.Common.{◌≡◌, ℕ, ◌+◌, ◌≤◌, List, ◌++◌, length, take, Option, Some, None, Err, sym, ap, subst, ◌∙◌}
+use Rattle.std.proofs.Common.{◌≡◌, ℕ, ◌+◌, ◌≤◌, List, ◌++◌, length, take, Option, Some, None, Result, Err, sym, ap, subst, ◌∙◌}
 use Rattle.std.proofs.lemmas.List.{length-append, length-take-le}
+use Rattle.cvc_base.specs.Answers.{Gives}
 use Rattle.cvc_base.specs.declared.fault.Fault.{Fault}
+use Rattle.cvc_base.specs.declared.fault.Refusal.{Refusal}
 use Rattle.cvc_base.specs.declared.fault.FileKind.TheVariants.{Netlist as NetlistFile}
 use Rattle.cvc_cdl.specs.declared.netlist.Netlist.{Netlist}
 use Rattle.cvc_cdl.specs.File.{file_of}
@@ -9,12 +11,14 @@ use Rattle.cvc_io.specs.Files.{Files, Standing, Takes}
 use Rattle.cvc_lex.specs.Lexing.{HasRead as LexerHasRead, fault_in}
 use Rattle.cvc_lex.specs.Lines.{closed_so_far, sure_fault}
 use Rattle.cvc_lex.proofs.Faults.{sure_none}
-use Rattle.cvc_run.specs.Loads.{IfAt, Loads, OfContent}
+use Rattle.cvc_run.specs.Loads.{OfContent}
 use Rattle.cvc_run.specs.Reader.{HasRead, IsDecided}
-use Rattle.cvc_run.specs.Rests.{IsFaultOf, OfRest}
-use Rattle.cvc_run.specs.declared.load.LoadFault.{LoadFault}
-use Rattle.cvc_run.specs.declared.load.LoadFault.TheVariants.{At, Read, NoMemory}
+use Rattle.cvc_run.specs.Rests.{HasReadFile, IsFaultOf, OfRest}
+use Rattle.cvc_run.specs.Stops.{IfAt, Says, as_load}
+use Rattle.cvc_run.specs.declared.stop.RunStop.{RunStop}
+use Rattle.cvc_run.specs.declared.stop.RunStop.TheVariants.{At, Read, NoMemory}
 use Rattle.cvc_run.specs.declared.netlist.NetlistReader.{NetlistReader}
+use Rattle.cvc_run.proofs.Loading.{loads_gives}
 use Rattle.cvc_run.proofs.Shelving.{of_any, of_taken, takes_more}
 
 -- the reader has read what was taken from the open file
@@ -47,9 +51,15 @@ counted r stream h =
 pub longer : (r r' : NetlistReader) (stream buf : List ℕ) (n : ℕ) → r.lexer.size ≡ length stream → r'.lexer.size ≡ length (stream ++ take n buf) → n ≤ length buf → r'.lexer.size ≡ r.lexer.size + n
 longer r r' stream buf n old new le = new ∙ length-append stream (take n buf) ∙ ap (λ k. k + length (take n buf)) (sym old) ∙ ap (λ k. r.lexer.size + k) (length-take-le n buf le)
 
+-- what the end of the netlist says is said of the file
+pub netlist_loaded : (files : Option Files) (name : List ℕ) (top : Option (List ℕ)) (reader : NetlistReader) (r : Result Netlist Refusal) → HasReadFile files name reader
+    → ((stream : List ℕ) → HasRead reader stream → Gives {A = Netlist} (λ n. n) r (file_of stream top)) → OfContent files name (λ bytes. Says {A = Netlist} (λ n. n) (as_load r) (file_of bytes top))
+netlist_loaded None name top reader r read gives = tt
+netlist_loaded (Some fs) name top reader r read gives = subst (λ (b : List ℕ). Says {A = Netlist} (λ n. n) (as_load r) (file_of b top)) (sym read.2) (loads_gives {A = Netlist} (λ n. n) r (file_of read.0 top) (gives read.0 read.1))
+
 -- the fault of a file with any top is that with this one
-pub at_this_top : (files : Option Files) (name : List ℕ) (top : Option (List ℕ)) (x : LoadFault) → IfAt {A = Unit {0}} (Err x) (λ fault. OfContent files name (IsFaultOf fault))
-    → OfContent files name (λ bytes. Loads {A = Netlist} (λ n. n) (Err x) (file_of bytes top))
+pub at_this_top : (files : Option Files) (name : List ℕ) (top : Option (List ℕ)) (x : RunStop Fault) → IfAt {A = Unit {0}} (Err x) (λ fault. OfContent files name (IsFaultOf fault))
+    → OfContent files name (λ bytes. Says {A = Netlist} (λ n. n) (Err x) (file_of bytes top))
 at_this_top None name top x h = tt
 at_this_top (Some fs) name top (At fault) h = h top
 at_this_top (Some fs) name top Read h = tt

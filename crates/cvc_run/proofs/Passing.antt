@@ -14,40 +14,41 @@ use Rattle.cvc_card.specs.Refused.{IsRefused}
 use Rattle.cvc_cdl.specs.Builder.{Building, HasBuilt, StandsFor, entry_of}
 use Rattle.cvc_cdl.specs.Building.{building_fault, fault_of, or_else}
 use Rattle.cvc_cdl.specs.Ending.{unless_fault}
-use Rattle.cvc_cdl.specs.File.{entries_from, entry_at, entry_with, then_with}
+use Rattle.cvc_cdl.specs.File.{entries_from, entry_at, entry_with}
 use Rattle.cvc_cdl.specs.Levels.{Entry}
 use Rattle.cvc_cdl.proofs.Placing.{first_fault-push}
 use Rattle.cvc_run.specs.Reader.{Builds, Passes, StopsAt}
+use Rattle.cvc_base.specs.Order.{◌>>=◌}
 
 pub entries_from-nil : (earlier : List Entry) → entries_from earlier [] ≡ Ok earlier
 unfolding entries_from
 entries_from-nil earlier = refl
 
-entries_from-cons : (earlier : List Entry) (line : Line) (lines : List Line) → entries_from earlier (line ∷ lines) ≡ then_with (entry_at earlier line) (λ e. entries_from (earlier ++ e ∷ []) lines)
+entries_from-cons : (earlier : List Entry) (line : Line) (lines : List Line) → entries_from earlier (line ∷ lines) ≡ ◌>>=◌ (entry_at earlier line) (λ e. entries_from (earlier ++ e ∷ []) lines)
 unfolding entries_from
 entries_from-cons earlier line lines = refl
 
-then_assoc : {A B C : Type 0} (r : Result A Fault) (f : A → Result B Fault) (g : B → Result C Fault) → then_with r (λ x. then_with (f x) g) ≡ then_with (then_with r f) g
+then_assoc : {A B C : Type 0} (r : Result A Fault) (f : A → Result B Fault) (g : B → Result C Fault) → ◌>>=◌ r (λ x. ◌>>=◌ (f x) g) ≡ ◌>>=◌ (◌>>=◌ r f) g
 then_assoc (Ok x) f g = refl
 then_assoc (Err fault) f g = refl
 
-pub entries_from-append : (earlier : List Entry) (xs ys : List Line) → entries_from earlier (xs ++ ys) ≡ then_with (entries_from earlier xs) (λ es. entries_from es ys)
-entries_from-append earlier [] ys = ap (λ r. then_with r (λ es. entries_from es ys)) (sym (entries_from-nil earlier))
+pub entries_from-append : (earlier : List Entry) (xs ys : List Line) → entries_from earlier (xs ++ ys) ≡ ◌>>=◌ (entries_from earlier xs) (λ es. entries_from es ys)
+entries_from-append earlier [] ys = ap (λ r. ◌>>=◌ r (λ es. entries_from es ys)) (sym (entries_from-nil earlier))
 entries_from-append earlier (x ∷ xs) ys =
     entries_from-cons earlier x (xs ++ ys)
     ∙ by (entry_at earlier x) (λ e. entries_from-append (earlier ++ e ∷ []) xs ys)
-    ∙ ap (λ r. then_with r (λ es. entries_from es ys)) (sym (entries_from-cons earlier x xs))
+    ∙ ap (λ r. ◌>>=◌ r (λ es. entries_from es ys)) (sym (entries_from-cons earlier x xs))
   where
-    by : (r : Result Entry Fault) → ((e : Entry) → entries_from (earlier ++ e ∷ []) (xs ++ ys) ≡ then_with (entries_from (earlier ++ e ∷ []) xs) (λ es. entries_from es ys)) → then_with r (λ e. entries_from (earlier ++ e ∷ []) (xs ++ ys)) ≡ then_with (then_with r (λ e. entries_from (earlier ++ e ∷ []) xs)) (λ es. entries_from es ys)
+    by : (r : Result Entry Fault) → ((e : Entry) → entries_from (earlier ++ e ∷ []) (xs ++ ys) ≡ ◌>>=◌ (entries_from (earlier ++ e ∷ []) xs) (λ es. entries_from es ys)) → ◌>>=◌ r (λ e. entries_from (earlier ++ e ∷ []) (xs ++ ys)) ≡ ◌>>=◌ (◌>>=◌ r (λ e. entries_from (earlier ++ e ∷ []) xs)) (λ es. entries_from es ys)
     by (Ok e) ih = ih e
     by (Err fault) ih = refl
 
 -- a fault in front decides the whole
 pub entries_from-fault : (earlier : List Entry) (xs ys : List Line) (fault : Fault) → entries_from earlier xs ≡ Err fault → entries_from earlier (xs ++ ys) ≡ Err fault
-entries_from-fault earlier xs ys fault e = entries_from-append earlier xs ys ∙ ap (λ r. then_with r (λ es. entries_from es ys)) e
+entries_from-fault earlier xs ys fault e = entries_from-append earlier xs ys ∙ ap (λ r. ◌>>=◌ r (λ es. entries_from es ys)) e
 
 pub entries_from-ok : (earlier : List Entry) (xs ys : List Line) (es : List Entry) → entries_from earlier xs ≡ Ok es → entries_from earlier (xs ++ ys) ≡ entries_from es ys
-entries_from-ok earlier xs ys es e = entries_from-append earlier xs ys ∙ ap (λ r. then_with r (λ es. entries_from es ys)) e
+entries_from-ok earlier xs ys es e = entries_from-append earlier xs ys ∙ ap (λ r. ◌>>=◌ r (λ es. entries_from es ys)) e
 
 -- ## One line
 
@@ -62,8 +63,8 @@ module _ (old : Building) (earlier : List Entry) (builds : Builds old earlier) w
   next_fault e = first_fault-push [] earlier e ∙ ap (λ o. or_else o (fault_of earlier e)) faultless
 
   module _ (line : Line) where
-    one_line : (r : Result Entry Fault) → entry_at earlier line ≡ r → entries_from earlier (line ∷ []) ≡ then_with r (λ e. entries_from (earlier ++ e ∷ []) [])
-    one_line r h = entries_from-cons earlier line [] ∙ ap (λ x. then_with x (λ e. entries_from (earlier ++ e ∷ []) [])) h
+    one_line : (r : Result Entry Fault) → entry_at earlier line ≡ r → entries_from earlier (line ∷ []) ≡ ◌>>=◌ r (λ e. entries_from (earlier ++ e ∷ []) [])
+    one_line r h = entries_from-cons earlier line [] ∙ ap (λ x. ◌>>=◌ x (λ e. entries_from (earlier ++ e ∷ []) [])) h
 
     one_fault : (fault : Fault) → entry_at earlier line ≡ Err fault → entries_from earlier (line ∷ []) ≡ Err fault
     one_fault fault h = one_line (Err fault) h

@@ -21,18 +21,28 @@ is_accepted said (Some fs) name = is_ok (said (content fs name))
 abbrev pub reading : {A : Type 0} → (List ℕ → Result A Fault) → Option Files → List ℕ → Reading
 reading said files name = record { name = name; accepted = is_accepted said files name }
 
-abbrev pub IsDue : List Reading → List ℕ → Type 0
-IsDue [] name = ⊥
-IsDue (r ∷ later) name = (name ≡ r.name) ⊎ ((r.accepted ≡ true) × IsDue later name)
+-- the files that a run may read: these, as far as those before are accepted, or any, where only a file that isn't told would name them
+pub data Due : Type 0 where
+  AnyName : Due
+  Named : List Reading → Due
+
+-- the count of a due file rose: that of the first, or where it is accepted that of a later one
+abbrev pub OneFailed : List Reading → Counts → Counts → Type 0
+OneFailed [] before after = ⊥
+OneFailed (r ∷ later) before after = Rose (before r.name) (after r.name) ⊎ ((r.accepted ≡ true) × OneFailed later before after)
+
+abbrev pub DueFailed : Due → Counts → Counts → Type 0
+DueFailed AnyName before after = (name : List ℕ) × Rose (before name) (after name)
+DueFailed (Named readings) before after = OneFailed readings before after
+
+-- no file is due
+abbrev pub no_file : Due
+no_file = Named []
 
 -- the netlist and the models
-abbrev pub design_readings : Option Files → Option (List ℕ) → List ℕ → List ℕ → List Reading
-design_readings files top netlist models = reading (flat_of_file top) files netlist ∷ reading models_of files models ∷ []
+abbrev pub design_due : Option Files → Option (List ℕ) → List ℕ → List ℕ → Due
+design_due files top netlist models = Named (reading (flat_of_file top) files netlist ∷ reading models_of files models ∷ [])
 
 -- the three files of a job
-abbrev pub job_readings : Option Files → Job → List Reading
-job_readings files job = reading (flat_of_file job.top) files job.netlist ∷ reading models_of files job.models ∷ reading power_of files job.power ∷ []
-
--- the count of a due file rose
-abbrev pub DueFailed : List Reading → Counts → Counts → Type 0
-DueFailed readings before after = (name : List ℕ) × IsDue readings name × Rose (before name) (after name)
+abbrev pub job_due : Option Files → Job → Due
+job_due files job = Named (reading (flat_of_file job.top) files job.netlist ∷ reading models_of files job.models ∷ reading power_of files job.power ∷ [])

@@ -1,4 +1,5 @@
 pub mod Codes
+pub mod Stages
 pub mod Said
 pub mod Due
 pub mod Shelves
@@ -7,6 +8,6 @@ pub mod Loads
 pub mod Reader
 pub mod Rests
 pub mod Outside
+pub mod Run
 pub mod Outcome
-pub mod Judged
 pub mod Telling

@@ -28,23 +28,31 @@ WroteFront t text = (n : ℕ) × Wrote t (take n text)
 abbrev pub SinkFailed : Taken → Type 0
 SinkFailed t = Rose t.faults_before t.faults_after
 
--- a text was told: with this status and whole, or a fault of the sink and a front of it
-abbrev pub Ends : Status → List ℕ → Taken → Status → Type 0
-Ends status text t result = ((result ≡ status) × Wrote t text) ⊎ ((result ≡ WriteFault) × SinkFailed t × WroteFront t text)
+-- how a run ends: with a status and a text
+pub record Ending : Type 0 where
+  pub status : Status
+  pub text : List ℕ
 
--- an outcome: which status and text a run has
+abbrev pub ending : Status → List ℕ → Ending
+ending status text = record { status = status; text = text }
+
+-- it was told: with its status and its whole text, or a fault of the sink and a front of the text
+abbrev pub Ends : Ending → Taken → Status → Type 0
+Ends e t result = ((result ≡ e.status) × Wrote t e.text) ⊎ ((result ≡ WriteFault) × SinkFailed t × WroteFront t e.text)
+
+-- an outcome: which endings a run has
 abbrev pub Outcome : Type 1
-Outcome = Status → List ℕ → Type 0
+Outcome = Ending → Type 0
 
 abbrev pub EndsAs : Outcome → Taken → Status → Type 0
-EndsAs outcome t status = (text : List ℕ) × outcome status text × Wrote t text
+EndsAs outcome t status = (text : List ℕ) × outcome (ending status text) × Wrote t text
 
 abbrev pub StopsIn : Outcome → Taken → Type 0
-StopsIn outcome t = (status : Status) × (text : List ℕ) × outcome status text × WroteFront t text
+StopsIn outcome t = (e : Ending) × outcome e × WroteFront t e.text
 
 -- what a run of this outcome may answer, where `failed` says that a due file has failed in it
-abbrev pub Answers : Outcome → Type 0 → Taken → Status → Type 0
-Answers outcome failed t ReadFault = failed × WroteNothing t
-Answers outcome failed t WriteFault = SinkFailed t × StopsIn outcome t
-Answers outcome failed t NoMemory = WroteNothing t
-Answers outcome failed t status = EndsAs outcome t status
+abbrev pub MayAnswer : Outcome → Type 0 → Taken → Status → Type 0
+MayAnswer outcome failed t ReadFault = failed × WroteNothing t
+MayAnswer outcome failed t WriteFault = SinkFailed t × StopsIn outcome t
+MayAnswer outcome failed t NoMemory = WroteNothing t
+MayAnswer outcome failed t status = EndsAs outcome t status

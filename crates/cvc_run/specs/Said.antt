@@ -1,10 +1,10 @@
 -- What the files of a run say, one after another: the netlist as its flat list, the models, the power file, and the circuit that all three are bound
--- to. The first that is refused decides, with its status and its fault. Each front of the files has a name of its own, since every run that reads
--- files begins with one of them.
-use Rattle.std.specs.Prelude.{ℕ, List, Option, Result, Ok, Err}
+-- to. The first stage that is refused decides. Each front of the files has a name of its own, since every run that reads files begins with one of
+-- them.
+use Rattle.std.specs.Prelude.{ℕ, List, Option, Result, Ok}
 use Rattle.cvc_base.specs.declared.fault.Fault.{Fault}
 use Rattle.cvc_bind.specs.Bound.{circuit_of}
-use Rattle.cvc_cdl.specs.File.{file_of, then_with}
+use Rattle.cvc_cdl.specs.File.{file_of}
 use Rattle.cvc_flat.specs.Flat.{FlatList, flat_of, limits}
 use Rattle.cvc_io.specs.Files.{Files, content}
 use Rattle.cvc_law.specs.Network.{Network}
@@ -12,31 +12,15 @@ use Rattle.cvc_model.specs.declared.row.ModelRow.{ModelRow}
 use Rattle.cvc_model.specs.Models.{models_of}
 use Rattle.cvc_power.specs.declared.row.PowerRow.{PowerRow}
 use Rattle.cvc_power.specs.Power.{power_of}
-use Rattle.cvc_run.specs.declared.status.Status.{Status}
-use Rattle.cvc_run.specs.declared.status.Status.TheVariants.{Netlist, Models, Power, Binding}
+use Rattle.cvc_run.specs.Stages.{at_stage}
+use Rattle.cvc_run.specs.declared.stage.Refused.{Refused}
+use Rattle.cvc_run.specs.declared.stage.Stage.TheVariants.{Netlist, Models, Power, Binding}
 use Rattle.cvc_words.specs.declared.command.Job.{Job}
-
--- how a run ends that is refused
-pub record Refused : Type 0 where
-  pub status : Status
-  pub fault : Fault
-
-abbrev pub refused_with : Status → Fault → Refused
-refused_with status fault = record { status = status; fault = fault }
-
--- a step of a run: what it says, or the refusal with this status
-abbrev pub step : {A : Type 0} → Status → Result A Fault → Result A Refused
-step status (Ok x) = Ok x
-step status (Err fault) = Err (refused_with status fault)
-
--- what comes behind a step that is accepted
-abbrev pub then : {A B : Type 0} → Result A Refused → (A → Result B Refused) → Result B Refused
-then (Ok x) next = next x
-then (Err refused) next = Err refused
+use Rattle.cvc_base.specs.Order.{◌>>=◌}
 
 -- the flat list of a netlist file with this top
 unfoldable pub flat_of_file : Option (List ℕ) → List ℕ → Result FlatList Fault
-flat_of_file top bytes = then_with (file_of bytes top) (flat_of limits)
+flat_of_file top bytes = file_of bytes top >>= flat_of limits
 
 -- ## The netlist and the models
 
@@ -48,7 +32,10 @@ abbrev pub parts : FlatList → List ModelRow → Parts
 parts flat rows = record { flat = flat; rows = rows }
 
 unfoldable pub design_of : Option (List ℕ) → List ℕ → List ℕ → Result Parts Refused
-design_of top netlist models = then (step Netlist (flat_of_file top netlist)) (λ flat. then (step Models (models_of models)) (λ rows. Ok (parts flat rows)))
+design_of top netlist models = do
+  flat ← at_stage Netlist (flat_of_file top netlist)
+  rows ← at_stage Models (models_of models)
+  Ok (parts flat rows)
 
 -- ## The power file, and all together
 
@@ -61,10 +48,15 @@ abbrev pub whole : FlatList → Network → Whole
 whole flat circuit = record { flat = flat; circuit = circuit }
 
 unfoldable pub bound_with : Parts → List PowerRow → Result Whole Refused
-bound_with d power = then (step Binding (circuit_of d.flat d.rows power)) (λ circuit. Ok (whole d.flat circuit))
+bound_with d power = do
+  circuit ← at_stage Binding (circuit_of d.flat d.rows power)
+  Ok (whole d.flat circuit)
 
 unfoldable pub bound_of : Option (List ℕ) → List ℕ → List ℕ → List ℕ → Result Whole Refused
-bound_of top netlist models power = then (design_of top netlist models) (λ d. then (step Power (power_of power)) (bound_with d))
+bound_of top netlist models power = do
+  d ← design_of top netlist models
+  rows ← at_stage Power (power_of power)
+  bound_with d rows
 
 -- what the files of a job say
 abbrev pub bound_of_job : Files → Job → Result Whole Refused

@@ -1,19 +1,23 @@
 //! A whole run of a check: from the files of a job, or a generated circuit, to the report or the refusal, and the status.
 //!
-//! `specs/Said` has what the files say, `specs/Outcome` the status and the text that follow.
+//! `specs/Said` has what the files say, `specs/Outcome` the status and the text that follow, and `specs/Run` what a run may answer.
 #![tactic(auto)]
 
-mod bound;
-mod judged;
+mod checked;
 mod load;
 mod netlist;
 mod run;
+mod stage;
 mod stages;
 mod status;
 mod stop;
 mod telling;
+mod whole;
 
-pub use load::{LoadFault, load_file};
+pub use load::load_file;
 pub use run::{check, check_serial, survey};
+pub use stage::{Refused, Stage};
 pub use stages::{Design, load_design};
 pub use status::Status;
+pub use stop::{LoadFault, RunStop};
+pub use telling::{Told, tell, tell_run};

@@ -7,12 +7,15 @@ ghost use Rattle.cvc_cdl.specs.WellFormed.{IsWellFormed};
 ghost use Rattle.cvc_io.specs.Causes.{Rose};
 ghost use Rattle.cvc_io.specs.Files.{NoneFalls, RoseFor};
 ghost use Rattle.cvc_lex.specs.Laws.{HasToken};
-ghost use Rattle.cvc_run.specs.Loads.{IfAt as IfLoadAt, Loads, OfContent, UnreadOnlyWhere};
+ghost use Rattle.cvc_run.specs.Loads.{OfContent};
 ghost use Rattle.cvc_run.specs.Reader.{HasRead, IsDecided, IsReading, Passes, StopsAt};
 ghost use Rattle.cvc_run.specs.Rests.{HasReadFile, HasReadRest, IsFaultOf, OfRest};
 ghost use Rattle.cvc_run.specs.Shelves.{Leaves};
+ghost use Rattle.cvc_run.specs.Stops.{IfAt as IfLoadAt, ReadOnlyWhere, Says};
 
-use crate::load::{LoadFault, PIECE, as_load};
+use crate::LoadFault;
+use crate::load::PIECE;
+use crate::stop::as_load;
 use cvc_base::{FileKind, Line, NoMemory, Refusal};
 use cvc_card::read_card;
 use cvc_cdl::{Builder, Netlist};
@@ -132,7 +135,7 @@ fn feed_through<S: Shelf>(
     ensures counts { NoneFalls (S.faults shelf.old) (S.faults shelf.new) }
     ensures read { OnOk result (HasReadRest (S.standing shelf.old) reader.new) }
     ensures decided { IfLoadAt result (λ fault. OfRest (S.standing shelf.old) (IsFaultOf fault)) }
-    ensures cause { UnreadOnlyWhere result (RoseFor (S.standing shelf.old) (S.faults shelf.old) (S.faults shelf.new)) }
+    ensures cause { ReadOnlyWhere result (RoseFor (S.standing shelf.old) (S.faults shelf.old) (S.faults shelf.new)) }
 {
     'pieces: loop {
         let Ok(count) = shelf.read(buf) else {
@@ -154,7 +157,7 @@ fn feed_rest<S: Shelf>(shelf: &mut S, reader: &mut NetlistReader) -> Result<(), 
     ensures counts { NoneFalls (S.faults shelf.old) (S.faults shelf.new) }
     ensures read { OnOk result (HasReadRest (S.standing shelf.old) reader.new) }
     ensures decided { IfLoadAt result (λ fault. OfRest (S.standing shelf.old) (IsFaultOf fault)) }
-    ensures cause { UnreadOnlyWhere result (RoseFor (S.standing shelf.old) (S.faults shelf.old) (S.faults shelf.new)) }
+    ensures cause { ReadOnlyWhere result (RoseFor (S.standing shelf.old) (S.faults shelf.old) (S.faults shelf.new)) }
 {
     let mut buf = vec![in reader.alloc; 0; PIECE]?;
     feed_through(shelf, reader, buf.as_mut_slice())
@@ -170,7 +173,7 @@ fn feed_file<S: Shelf>(
     requires fresh { HasRead reader.old [] }
     ensures read { OnOk result (HasReadFile (S.files shelf.old) name.now reader.new) }
     ensures decided { IfLoadAt result (λ fault. OfContent (S.files shelf.old) name.now (IsFaultOf fault)) }
-    ensures cause { UnreadOnlyWhere result (Rose (S.faults shelf.old name.now) (S.faults shelf.new name.now)) }
+    ensures cause { ReadOnlyWhere result (Rose (S.faults shelf.old name.now) (S.faults shelf.new name.now)) }
     ensures shelf { Leaves (S.standing shelf.new) (S.files shelf.old) (S.files shelf.new) (S.faults shelf.old) (S.faults shelf.new) }
 {
     if shelf.open_file(name).is_err() {
@@ -190,9 +193,9 @@ pub(crate) fn load_netlist<S: Shelf>(
     shelf: &mut S,
 ) -> Result<Netlist, LoadFault>
     requires { S.standing shelf.old ≡ None }
-    ensures netlist { OfContent (S.files shelf.old) name.now (λ content. Loads (λ netlist. netlist) result (file_of content (named_top top.entry))) }
+    ensures netlist { OfContent (S.files shelf.old) name.now (λ content. Says (λ netlist. netlist) result (file_of content (named_top top.entry))) }
     ensures well_formed { IfOk result IsWellFormed }
-    ensures cause { UnreadOnlyWhere result (Rose (S.faults shelf.old name.now) (S.faults shelf.new name.now)) }
+    ensures cause { ReadOnlyWhere result (Rose (S.faults shelf.old name.now) (S.faults shelf.new name.now)) }
     ensures shelf { Leaves (S.standing shelf.new) (S.files shelf.old) (S.files shelf.new) (S.faults shelf.old) (S.faults shelf.new) }
 {
     let mut reader = NetlistReader::new(alloc)?;

@@ -1,36 +1,49 @@
 //! The runs of a check.
 ghost use Rattle.std.specs.Prelude.{◌≡◌, ◌≤◌, None, IfOk, IfSome};
-ghost use Rattle.cvc_run.specs.Due.{DueFailed, job_readings};
-ghost use Rattle.cvc_run.specs.Judged.{IsJudged, judged_whole};
-ghost use Rattle.cvc_run.specs.Outcome.{AcceptedIsAnswered, JobIsAnswered, JobOutcome, SurveyOutcome, survey_said};
-ghost use Rattle.cvc_run.specs.Outside.{Answers, taken};
+ghost use Rattle.cvc_run.specs.Due.{DueFailed, job_due};
+ghost use Rattle.cvc_run.specs.Outcome.{job_run, survey_run, survey_said};
+ghost use Rattle.cvc_run.specs.Outside.{taken};
+ghost use Rattle.cvc_run.specs.Run.{Answers, no_shelf};
 ghost use Rattle.cvc_run.specs.Said.{bound_of_job};
 ghost use Rattle.cvc_run.specs.Shelves.{Leaves};
 ghost use Rattle.cvc_run.specs.Stops.{ReadOnlyWhere, Says};
+ghost use Rattle.cvc_run.specs.Telling.{IsChecked, checked_whole};
+ghost use Rattle.cvc_run.specs.declared.checked.Telling.TheVariants as tellings;
 
-use crate::Status;
-use crate::bound::{bind_files, bind_texts};
-use crate::judged::{Judged, judge, judge_serial};
-use crate::stop::RunStop;
-use crate::telling::{Telling, tell};
+use crate::checked::{Checked, Telling};
+use crate::stage::Refused;
+use crate::telling::tell_run;
+use crate::whole::{Whole, bind_files, bind_texts};
+use crate::{RunStop, Status};
 use cvc_crew::Gate;
 use cvc_gen::netlist_of;
 use cvc_io::{Shelf, Sink};
+use cvc_judge::{judge, judge_serial};
 use cvc_words::Job;
 use std::alloc::Global;
 use std::sync::Wait;
 use std::thread::Threads;
 
 // The judged circuit of a job's files, on one thread.
-fn judge_files_serial<S: Shelf>(alloc: Global, job: &Job, shelf: &mut S) -> Result<Judged, RunStop>
+fn judge_files_serial<S: Shelf>(
+    alloc: Global,
+    job: &Job,
+    shelf: &mut S,
+) -> Result<Checked, RunStop<Refused>>
     requires { S.standing shelf.old ≡ None }
     ensures shelf { Leaves (S.standing shelf.new) (S.files shelf.old) (S.files shelf.new) (S.faults shelf.old) (S.faults shelf.new) }
-    ensures said { IfSome (S.files shelf.old) (λ fs. Says judged_whole result (bound_of_job fs job.now)) }
-    ensures cause { ReadOnlyWhere result (DueFailed (job_readings (S.files shelf.old) job.now) (S.faults shelf.old) (S.faults shelf.new)) }
-    ensures judged { IfOk result IsJudged }
+    ensures said { IfSome (S.files shelf.old) (λ fs. Says checked_whole result (bound_of_job fs job.now)) }
+    ensures cause { ReadOnlyWhere result (DueFailed (job_due (S.files shelf.old) job.now) (S.faults shelf.old) (S.faults shelf.new)) }
+    ensures checked { IfOk result IsChecked }
+    ensures telling { IfOk result (λ c. c.telling ≡ tellings.Report job.now.nets) }
 {
-    let bound = bind_files(alloc, job, shelf)?;
-    Ok(judge_serial(alloc, bound)?)
+    let Whole { flat, circuit } = bind_files(alloc, job, shelf)?;
+    let judged = judge_serial(alloc, circuit)?;
+    Ok(Checked {
+        flat,
+        judged,
+        telling: Telling::Report { nets: job.nets },
+    })
 }
 
 // The judged circuit of a job's files, by its workers.
@@ -40,17 +53,23 @@ fn judge_files<R: Threads + Wait + Sync, S: Shelf, G: Gate>(
     job: &Job,
     shelf: &mut S,
     gate: &G,
-) -> Result<Judged, RunStop>
+) -> Result<Checked, RunStop<Refused>>
     requires closed { S.standing shelf.old ≡ None }
     requires some { 1 ≤ job.now.workers }
     requires few { job.now.workers ≤ 64 }
     ensures shelf { Leaves (S.standing shelf.new) (S.files shelf.old) (S.files shelf.new) (S.faults shelf.old) (S.faults shelf.new) }
-    ensures said { IfSome (S.files shelf.old) (λ fs. Says judged_whole result (bound_of_job fs job.now)) }
-    ensures cause { ReadOnlyWhere result (DueFailed (job_readings (S.files shelf.old) job.now) (S.faults shelf.old) (S.faults shelf.new)) }
-    ensures judged { IfOk result IsJudged }
+    ensures said { IfSome (S.files shelf.old) (λ fs. Says checked_whole result (bound_of_job fs job.now)) }
+    ensures cause { ReadOnlyWhere result (DueFailed (job_due (S.files shelf.old) job.now) (S.faults shelf.old) (S.faults shelf.new)) }
+    ensures checked { IfOk result IsChecked }
+    ensures telling { IfOk result (λ c. c.telling ≡ tellings.Report job.now.nets) }
 {
-    let bound = bind_files(alloc, job, shelf)?;
-    Ok(judge(rt, alloc, bound, job.workers, gate)?)
+    let Whole { flat, circuit } = bind_files(alloc, job, shelf)?;
+    let judged = judge(rt, alloc, circuit, job.workers, gate)?;
+    Ok(Checked {
+        flat,
+        judged,
+        telling: Telling::Report { nets: job.nets },
+    })
 }
 
 // The judged circuit of the generated texts of this seed and size, by these workers.
@@ -61,18 +80,24 @@ fn judge_generated<R: Threads + Wait + Sync, G: Gate>(
     size: u32,
     workers: u32,
     gate: &G,
-) -> Result<Judged, RunStop>
+) -> Result<Checked, RunStop<Refused>>
     requires some { 1 ≤ size }
     requires limit { size ≤ 200000 }
     requires some_workers { 1 ≤ workers }
     requires few_workers { workers ≤ 64 }
-    ensures said { Says judged_whole result (survey_said seed size) }
+    ensures said { Says checked_whole result (survey_said seed size) }
     ensures unread { ReadOnlyWhere result ⊥ }
-    ensures judged { IfOk result IsJudged }
+    ensures checked { IfOk result IsChecked }
+    ensures telling { IfOk result (λ c. c.telling ≡ tellings.Summary seed size) }
 {
     let texts = netlist_of(alloc, seed, size)?;
-    let bound = bind_texts(alloc, &texts)?;
-    Ok(judge(rt, alloc, bound, workers, gate)?)
+    let Whole { flat, circuit } = bind_texts(alloc, &texts)?;
+    let judged = judge(rt, alloc, circuit, workers, gate)?;
+    Ok(Checked {
+        flat,
+        judged,
+        telling: Telling::Summary { seed, size },
+    })
 }
 
 /// Checks a netlist on one thread: reads the job's three files, and writes the report of the least voltage family, or the line of the first refusal.
@@ -86,16 +111,12 @@ pub fn check_serial<S: Shelf, K: Sink>(
     requires { S.standing shelf.old ≡ None }
     ensures shelf { Leaves (S.standing shelf.new) (S.files shelf.old) (S.files shelf.new) (S.faults shelf.old) (S.faults shelf.new) }
     ensures sink { K.faults sink.old ≤ K.faults sink.new }
-    // The status and the bytes are the outcome's, or a fault of the outside came in this call, or memory ran out.
-    ensures answer { Answers (JobOutcome (S.files shelf.old) job.now)
-        (DueFailed (job_readings (S.files shelf.old) job.now) (S.faults shelf.old) (S.faults shelf.new))
-        (taken (K.written sink.old) (K.written sink.new) (K.faults sink.old) (K.faults sink.new)) result }
-    ensures answered { JobIsAnswered (S.files shelf.old) job.now
-        (DueFailed (job_readings (S.files shelf.old) job.now) (S.faults shelf.old) (S.faults shelf.new))
+    // The status and the bytes are the outcome's, or a fault of the outside came in this call, or memory ran out. Accepted input is answered.
+    ensures answer { Answers (job_run (S.files shelf.old) job.now) (S.faults shelf.old) (S.faults shelf.new)
         (taken (K.written sink.old) (K.written sink.new) (K.faults sink.old) (K.faults sink.new)) result }
 {
     let run = judge_files_serial(alloc, job, shelf);
-    tell(&run, Telling::Report { nets: job.nets }, sink)
+    tell_run(&run, sink)
 }
 
 /// Checks a netlist with the job's workers, 1 to 64: the same answer as that of `check_serial`, for every schedule. It leaves no file open.
@@ -113,16 +134,12 @@ pub fn check<R: Threads + Wait + Sync, S: Shelf, K: Sink, G: Gate>(
     requires few { job.now.workers ≤ 64 }
     ensures shelf { Leaves (S.standing shelf.new) (S.files shelf.old) (S.files shelf.new) (S.faults shelf.old) (S.faults shelf.new) }
     ensures sink { K.faults sink.old ≤ K.faults sink.new }
-    // The status and the bytes are the outcome's, or a fault of the outside came in this call, or memory ran out.
-    ensures answer { Answers (JobOutcome (S.files shelf.old) job.now)
-        (DueFailed (job_readings (S.files shelf.old) job.now) (S.faults shelf.old) (S.faults shelf.new))
-        (taken (K.written sink.old) (K.written sink.new) (K.faults sink.old) (K.faults sink.new)) result }
-    ensures answered { JobIsAnswered (S.files shelf.old) job.now
-        (DueFailed (job_readings (S.files shelf.old) job.now) (S.faults shelf.old) (S.faults shelf.new))
+    // The status and the bytes are the outcome's, or a fault of the outside came in this call, or memory ran out. Accepted input is answered.
+    ensures answer { Answers (job_run (S.files shelf.old) job.now) (S.faults shelf.old) (S.faults shelf.new)
         (taken (K.written sink.old) (K.written sink.new) (K.faults sink.old) (K.faults sink.new)) result }
 {
     let run = judge_files(rt, alloc, job, shelf, gate);
-    tell(&run, Telling::Report { nets: job.nets }, sink)
+    tell_run(&run, sink)
 }
 
 /// Checks the netlist that is generated from the seed, with `size` stages, by 1 to 64 workers, and writes a summary: how many findings each rule has.
@@ -141,11 +158,10 @@ pub fn survey<R: Threads + Wait + Sync, K: Sink, G: Gate>(
     requires some_workers { 1 ≤ workers }
     requires few_workers { workers ≤ 64 }
     ensures sink { K.faults sink.old ≤ K.faults sink.new }
-    // The status and the bytes are the outcome's, or the sink failed in this call, or memory ran out.
-    ensures answer { Answers (SurveyOutcome seed size) ⊥ (taken (K.written sink.old) (K.written sink.new) (K.faults sink.old) (K.faults sink.new)) result }
-    ensures answered { AcceptedIsAnswered (SurveyOutcome seed size) (survey_said seed size) ⊥
+    // The status and the bytes are the outcome's, or the sink failed in this call, or memory ran out. Accepted input is answered.
+    ensures answer { Answers (survey_run seed size) no_shelf no_shelf
         (taken (K.written sink.old) (K.written sink.new) (K.faults sink.old) (K.faults sink.new)) result }
 {
     let run = judge_generated(rt, alloc, seed, size, workers, gate);
-    tell(&run, Telling::Summary { seed, size }, sink)
+    tell_run(&run, sink)
 }

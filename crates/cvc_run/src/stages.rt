@@ -9,17 +9,19 @@ ghost use Rattle.cvc_io.specs.Files.{content};
 ghost use Rattle.cvc_model.specs.Bindable.{AreBindable};
 ghost use Rattle.cvc_model.specs.Models.{models_of};
 ghost use Rattle.cvc_power.specs.Power.{IsOrdered, power_of};
-ghost use Rattle.cvc_run.specs.Due.{DueFailed, design_readings};
-ghost use Rattle.cvc_run.specs.Loads.{Loads, LoadsAll, OfContent, UnreadOnlyWhere};
-ghost use Rattle.cvc_run.specs.Said.{design_of, flat_of_file, parts, step};
+ghost use Rattle.cvc_run.specs.Due.{DueFailed, design_due};
+ghost use Rattle.cvc_run.specs.Loads.{OfContent};
+ghost use Rattle.cvc_run.specs.Said.{design_of, flat_of_file, parts};
 ghost use Rattle.cvc_run.specs.Shelves.{Leaves};
-ghost use Rattle.cvc_run.specs.Stops.{ReadOnlyWhere, Says};
-ghost use Rattle.cvc_run.specs.declared.status.Status.TheVariants as statuses;
+ghost use Rattle.cvc_run.specs.Stages.{at_stage};
+ghost use Rattle.cvc_run.specs.Stops.{ReadOnlyWhere, Says, SaysByFile};
+ghost use Rattle.cvc_run.specs.declared.stage.Stage.TheVariants as steps;
 
-use crate::Status;
-use crate::load::{LoadFault, as_load, as_step, load_file};
+use crate::load::load_file;
 use crate::netlist::{load_netlist, netlist_of};
-use crate::stop::RunStop;
+use crate::stage::{Refused, Stage};
+use crate::stop::{as_load, as_step};
+use crate::{LoadFault, RunStop};
 use cvc_base::{Refusal, Text};
 use cvc_cdl::Netlist;
 use cvc_flat::{Flat, flatten};
@@ -54,8 +56,8 @@ fn load_flat<S: Shelf>(
     shelf: &mut S,
 ) -> Result<Flat, LoadFault>
     requires { S.standing shelf.old ≡ None }
-    ensures flat { OfContent (S.files shelf.old) name.now (λ content. Loads (λ flat. flat.list) result (flat_of_file (named_top top.entry) content)) }
-    ensures cause { UnreadOnlyWhere result (Rose (S.faults shelf.old name.now) (S.faults shelf.new name.now)) }
+    ensures flat { OfContent (S.files shelf.old) name.now (λ content. Says (λ flat. flat.list) result (flat_of_file (named_top top.entry) content)) }
+    ensures cause { ReadOnlyWhere result (Rose (S.faults shelf.old name.now) (S.faults shelf.new name.now)) }
     ensures shelf { Leaves (S.standing shelf.new) (S.files shelf.old) (S.files shelf.new) (S.faults shelf.old) (S.faults shelf.new) }
 {
     let netlist = load_netlist(alloc, name.bytes(), top, shelf)?;
@@ -65,9 +67,9 @@ fn load_flat<S: Shelf>(
 // The rows of the models file of this name.
 fn load_models<S: Shelf>(alloc: Global, name: &Text, shelf: &mut S) -> Result<Models, LoadFault>
     requires { S.standing shelf.old ≡ None }
-    ensures rows { OfContent (S.files shelf.old) name.now (λ content. Loads (λ rows. rows) result (models_of content)) }
+    ensures rows { OfContent (S.files shelf.old) name.now (λ content. Says (λ rows. rows) result (models_of content)) }
     ensures bindable { IfOk result AreBindable }
-    ensures cause { UnreadOnlyWhere result (Rose (S.faults shelf.old name.now) (S.faults shelf.new name.now)) }
+    ensures cause { ReadOnlyWhere result (Rose (S.faults shelf.old name.now) (S.faults shelf.new name.now)) }
     ensures shelf { Leaves (S.standing shelf.new) (S.files shelf.old) (S.files shelf.new) (S.faults shelf.old) (S.faults shelf.new) }
 {
     let text = load_file(alloc, name, ROWS_LIMIT, shelf)?;
@@ -77,33 +79,33 @@ fn load_models<S: Shelf>(alloc: Global, name: &Text, shelf: &mut S) -> Result<Mo
 // The rows of the power file of this name.
 fn load_power<S: Shelf>(alloc: Global, name: &Text, shelf: &mut S) -> Result<Power, LoadFault>
     requires { S.standing shelf.old ≡ None }
-    ensures rows { OfContent (S.files shelf.old) name.now (λ content. Loads (λ rows. rows) result (power_of content)) }
+    ensures rows { OfContent (S.files shelf.old) name.now (λ content. Says (λ rows. rows) result (power_of content)) }
     ensures ordered { IfOk result (All IsOrdered) }
-    ensures cause { UnreadOnlyWhere result (Rose (S.faults shelf.old name.now) (S.faults shelf.new name.now)) }
+    ensures cause { ReadOnlyWhere result (Rose (S.faults shelf.old name.now) (S.faults shelf.new name.now)) }
     ensures shelf { Leaves (S.standing shelf.new) (S.files shelf.old) (S.files shelf.new) (S.faults shelf.old) (S.faults shelf.new) }
 {
     let text = load_file(alloc, name, ROWS_LIMIT, shelf)?;
     as_load(read_power(alloc, text.bytes()))
 }
 
-/// The flat list and the model rows of two files. The second is opened only when the first is accepted.
+/// The flat list and the model rows of two files. The second is opened only when the first is accepted, which is tested.
 pub(crate) fn read_design<S: Shelf>(
     alloc: Global,
     netlist: &Text,
     models: &Text,
     top: Option<&[u8]>,
     shelf: &mut S,
-) -> Result<Design, RunStop>
+) -> Result<Design, RunStop<Refused>>
     requires { S.standing shelf.old ≡ None }
     ensures design { IfSome (S.files shelf.old) (λ fs. Says (λ d. parts d.flat.list d.models) result
         (design_of (named_top top.entry) (content fs netlist.now) (content fs models.now))) }
     ensures bindable { IfOk result (λ d. AreBindable d.models) }
     ensures cause { ReadOnlyWhere result
-        (DueFailed (design_readings (S.files shelf.old) (named_top top.entry) netlist.now models.now) (S.faults shelf.old) (S.faults shelf.new)) }
+        (DueFailed (design_due (S.files shelf.old) (named_top top.entry) netlist.now models.now) (S.faults shelf.old) (S.faults shelf.new)) }
     ensures shelf { Leaves (S.standing shelf.new) (S.files shelf.old) (S.files shelf.new) (S.faults shelf.old) (S.faults shelf.new) }
 {
-    let flat = as_step(Status::Netlist, load_flat(alloc, netlist, top, shelf))?;
-    let models = as_step(Status::Models, load_models(alloc, models, shelf))?;
+    let flat = as_step(Stage::Netlist, load_flat(alloc, netlist, top, shelf))?;
+    let models = as_step(Stage::Models, load_models(alloc, models, shelf))?;
     Ok(Design { flat, models })
 }
 
@@ -118,10 +120,10 @@ fn name_bytes(name: Option<&Text>) -> Option<&[u8]>
 }
 
 /// The flat list of a netlist file, whose top is the cell of this name, and the rows of a models file. The models are opened only when the netlist is
-/// accepted. It leaves no file open.
+/// accepted, which is tested. It leaves no file open.
 ///
-/// `At` is the first fault of the netlist, of its flat list and of the models, in this order. `Read` comes only where a file that was due has failed
-/// in this call.
+/// `At` is the first fault of the netlist, of its flat list and of the models, in this order, and its file tells which of the two files is refused.
+/// `Read` comes only where a file that was due has failed in this call.
 pub fn load_design<S: Shelf>(
     alloc: Global,
     netlist: &Text,
@@ -130,16 +132,16 @@ pub fn load_design<S: Shelf>(
     shelf: &mut S,
 ) -> Result<Design, LoadFault>
     requires { S.standing shelf.old ≡ None }
-    ensures design { IfSome (S.files shelf.old) (λ fs. LoadsAll (λ d. parts d.flat.list d.models) result
+    ensures design { IfSome (S.files shelf.old) (λ fs. SaysByFile (λ d. parts d.flat.list d.models) result
         (design_of (named_top top.entry) (content fs netlist.now) (content fs models.now))) }
     ensures bindable { IfOk result (λ d. AreBindable d.models) }
-    ensures cause { UnreadOnlyWhere result
-        (DueFailed (design_readings (S.files shelf.old) (named_top top.entry) netlist.now models.now) (S.faults shelf.old) (S.faults shelf.new)) }
+    ensures cause { ReadOnlyWhere result
+        (DueFailed (design_due (S.files shelf.old) (named_top top.entry) netlist.now models.now) (S.faults shelf.old) (S.faults shelf.new)) }
     ensures shelf { Leaves (S.standing shelf.new) (S.files shelf.old) (S.files shelf.new) (S.faults shelf.old) (S.faults shelf.new) }
 {
     match read_design(alloc, netlist, models, name_bytes(top), shelf) {
         Ok(design) => Ok(design),
-        Err(stop) => Err(LoadFault::from(stop)),
+        Err(stop) => Err(stop.load_fault()),
     }
 }
 
@@ -148,14 +150,14 @@ pub(crate) fn read_power_file<S: Shelf>(
     alloc: Global,
     name: &Text,
     shelf: &mut S,
-) -> Result<Power, RunStop>
+) -> Result<Power, RunStop<Refused>>
     requires { S.standing shelf.old ≡ None }
-    ensures rows { OfContent (S.files shelf.old) name.now (λ content. Says (λ rows. rows) result (step statuses.Power (power_of content))) }
+    ensures rows { OfContent (S.files shelf.old) name.now (λ content. Says (λ rows. rows) result (at_stage steps.Power (power_of content))) }
     ensures ordered { IfOk result (All IsOrdered) }
     ensures cause { ReadOnlyWhere result (Rose (S.faults shelf.old name.now) (S.faults shelf.new name.now)) }
     ensures shelf { Leaves (S.standing shelf.new) (S.files shelf.old) (S.files shelf.new) (S.faults shelf.old) (S.faults shelf.new) }
 {
-    as_step(Status::Power, load_power(alloc, name, shelf))
+    as_step(Stage::Power, load_power(alloc, name, shelf))
 }
 
 // The flat list of a netlist text, whose top is left open.
@@ -171,12 +173,12 @@ pub(crate) fn design_of_texts(
     alloc: Global,
     netlist: &Text,
     models: &Text,
-) -> Result<Design, RunStop>
+) -> Result<Design, RunStop<Refused>>
     ensures design { Says (λ d. parts d.flat.list d.models) result (design_of None netlist.now models.now) }
     ensures bindable { IfOk result (λ d. AreBindable d.models) }
     ensures unread { ReadOnlyWhere result ⊥ }
 {
-    let flat = as_step(Status::Netlist, as_load(flat_of_text(alloc, netlist)))?;
-    let models = as_step(Status::Models, as_load(read_models(alloc, models.bytes())))?;
+    let flat = as_step(Stage::Netlist, as_load(flat_of_text(alloc, netlist)))?;
+    let models = as_step(Stage::Models, as_load(read_models(alloc, models.bytes())))?;
     Ok(Design { flat, models })
 }

@@ -1,110 +1,92 @@
 //! The end of a run: the text that is written, and the status.
 ghost use Rattle.std.specs.Prelude.{◌≡◌, ◌≤◌, IfOk};
-ghost use Rattle.cvc_flat.specs.Answers.{WritesText};
+ghost use Rattle.cvc_io.specs.Bytes.{WritesText};
 ghost use Rattle.cvc_io.specs.Causes.{HasCause};
-ghost use Rattle.cvc_report.specs.Refusals.{refusal};
-ghost use Rattle.cvc_run.specs.Judged.{IsJudged};
-ghost use Rattle.cvc_run.specs.Outcome.{IsOfFiles, status_of};
 ghost use Rattle.cvc_run.specs.Outside.{Ends, taken};
-ghost use Rattle.cvc_run.specs.Telling.{Told, text_of_judged};
+ghost use Rattle.cvc_run.specs.Stops.{IfAt};
+ghost use Rattle.cvc_run.specs.Telling.{TellsRun};
 
-use crate::Status;
-use crate::judged::Judged;
-use crate::stop::RunStop;
-use cvc_base::{Fault, Findings};
+use crate::stage::Refused;
+use crate::{RunStop, Status};
 use cvc_io::{Sink, WriteFailed};
-use cvc_report::{write_refusal, write_report, write_summary};
+use cvc_report::{write_refusal, write_word_refusal};
+use cvc_words::WordFault;
 
-/// What is written of a judged circuit.
-#[derive(Clone, Copy)]
-pub(crate) enum Telling {
-    /// The report, with a line for each net where they are asked for.
-    Report { nets: bool },
-    /// The summary of the circuit that was generated from this seed with this size.
-    Summary { seed: u64, size: u32 },
+/// What a run tells at its end: a status and a text.
+pub trait Told {
+    ghost use Rattle.cvc_run.specs.Outside.{Ending};
+
+    /// The status and the text.
+    ghost told: { Self → Ending };
+
+    /// What must hold of it to be told.
+    ghost can_tell: { Self → Type 0 };
+
+    /// The status.
+    fn status(&self) -> Status
+        ensures { result ≡ (told self.now).status };
+
+    /// Writes the text. A failed write leaves a prefix of it in the sink, and comes only where the sink's count of faults rose.
+    fn write<K: Sink>(&self, sink: &mut K) -> Result<(), WriteFailed>
+        requires { can_tell self.now }
+        ensures written { WritesText (K.written sink.old) (K.written sink.new) result (told self.now).text }
+        ensures cause { HasCause (K.faults sink.old) (K.faults sink.new) result };
 }
 
-fn status_of(findings: &Findings) -> Status
-    ensures { result ≡ status_of findings.now }
-{
-    match findings.as_slice() {
-        [] => Status::Clean,
-        [_, ..] => Status::Errors,
+impl Told for Refused {
+    ghost use Rattle.cvc_run.specs.Outcome.{refused_ending};
+
+    ghost told = { refused_ending };
+
+    ghost can_tell = { λ _. Unit {0} };
+
+    fn status(&self) -> Status {
+        self.stage.status()
+    }
+
+    fn write<K: Sink>(&self, sink: &mut K) -> Result<(), WriteFailed> {
+        write_refusal(&self.fault, sink)
     }
 }
 
-// The status of refused files. One that says nothing of files refuses none.
-fn status_of_files(status: Status) -> Status
-    ensures of_files { IsOfFiles result }
-    ensures same { IsOfFiles status → result ≡ status }
-{
-    match status {
-        Status::Words | Status::ReadFault | Status::WriteFault | Status::NoMemory => {
-            Status::Binding
-        }
-        Status::Clean => Status::Clean,
-        Status::Errors => Status::Errors,
-        Status::Netlist => Status::Netlist,
-        Status::Models => Status::Models,
-        Status::Power => Status::Power,
-        Status::Binding => Status::Binding,
+impl Told for WordFault {
+    ghost use Rattle.cvc_run.specs.Outcome.{words_ending};
+
+    ghost told = { words_ending };
+
+    ghost can_tell = { λ _. Unit {0} };
+
+    fn status(&self) -> Status {
+        Status::Words
+    }
+
+    fn write<K: Sink>(&self, sink: &mut K) -> Result<(), WriteFailed> {
+        write_word_refusal(self.word(), sink)
     }
 }
 
-// Writes the text of a judged circuit.
-fn write_judged<K: Sink>(judged: &Judged, telling: Telling, sink: &mut K) -> Result<(), WriteFailed>
-    requires { IsJudged judged.now }
-    ensures written { WritesText (K.written sink.old) (K.written sink.new) result (text_of_judged telling judged.now) }
-    ensures cause { HasCause (K.faults sink.old) (K.faults sink.new) result }
-{
-    let Judged {
-        bound,
-        family,
-        findings,
-    } = judged;
-    match telling {
-        Telling::Report { nets } => {
-            write_report(&bound.circuit, &bound.flat, family, findings, nets, sink)
-        }
-        Telling::Summary { seed, size } => {
-            write_summary(seed, size, &bound.circuit, findings, sink)
-        }
-    }
-}
-
-fn tell_judged<K: Sink>(judged: &Judged, telling: Telling, sink: &mut K) -> Status
-    requires { IsJudged judged.now }
+/// Tells something: writes its text, and answers its status, or `WriteFault` where the sink failed.
+pub fn tell<T: Told, K: Sink>(told: &T, sink: &mut K) -> Status
+    requires { T.can_tell told.now }
     ensures counts { K.faults sink.old ≤ K.faults sink.new }
-    ensures ends { Ends (status_of judged.now.findings) (text_of_judged telling judged.now)
-        (taken (K.written sink.old) (K.written sink.new) (K.faults sink.old) (K.faults sink.new)) result }
+    ensures ends { Ends (T.told told.now) (taken (K.written sink.old) (K.written sink.new) (K.faults sink.old) (K.faults sink.new)) result }
 {
-    match write_judged(judged, telling, sink) {
-        Ok(()) => status_of(&judged.findings),
+    match told.write(sink) {
+        Ok(()) => told.status(),
         Err(WriteFailed) => Status::WriteFault,
     }
 }
 
-fn tell_refusal<K: Sink>(status: Status, fault: &Fault, sink: &mut K) -> Status
+/// Ends a run: tells its answer or its refusal. A fault of the shelf and want of memory write nothing.
+pub fn tell_run<T: Told, F: Told, K: Sink>(run: &Result<T, RunStop<F>>, sink: &mut K) -> Status
+    requires answer { IfOk run.now T.can_tell }
+    requires refusal { IfAt run.now F.can_tell }
     ensures counts { K.faults sink.old ≤ K.faults sink.new }
-    ensures ends { Ends status (refusal fault.now) (taken (K.written sink.old) (K.written sink.new) (K.faults sink.old) (K.faults sink.new)) result }
-{
-    match write_refusal(fault, sink) {
-        Ok(()) => status,
-        Err(WriteFailed) => Status::WriteFault,
-    }
-}
-
-/// Ends a run: writes what it tells of a judged circuit, or the line of a refusal. A fault of the shelf and want of memory write nothing.
-pub(crate) fn tell<K: Sink>(run: &Result<Judged, RunStop>, telling: Telling, sink: &mut K) -> Status
-    requires { IfOk run.now IsJudged }
-    ensures counts { K.faults sink.old ≤ K.faults sink.new }
-    ensures told { Told telling run.now (taken (K.written sink.old) (K.written sink.new) (K.faults sink.old) (K.faults sink.new)) result }
+    ensures told { TellsRun T.told F.told run.now (taken (K.written sink.old) (K.written sink.new) (K.faults sink.old) (K.faults sink.new)) result }
 {
     match run {
-        Ok(judged) => tell_judged(judged, telling, sink),
-        Err(RunStop::Refused(status, fault)) => {
-            tell_refusal(status_of_files(*status), fault, sink)
-        }
+        Ok(answer) => tell(answer, sink),
+        Err(RunStop::At(refusal)) => tell(refusal, sink),
         Err(RunStop::Read) => Status::ReadFault,
         Err(RunStop::NoMemory) => Status::NoMemory,
     }

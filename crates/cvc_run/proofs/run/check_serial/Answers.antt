@@ -1,11 +1,12 @@
-use Rattle.cvc_run.specs.declared.telling.Telling.TheVariants.{Report}
-use Rattle.cvc_run.proofs.Answering.{job_answered}
-use Rattle.cvc_run.proofs.Ending.{job_stands, run_answers}
+use Rattle.cvc_run.specs.declared.stage.Refused.{Refused}
+use Rattle.cvc_run.proofs.Ending.{job_answers}
+use Rattle.cvc_run.proofs.Loading.{at_any}
 use Rattle.cvc_run.proofs.run.check_serial.Goals as goal
 
 pub returns-clause-answer : goal.returns-clause-answer
 returns-clause-answer g c =
-    run_answers (Report c.args.job.now.nets) c.judge_files_serial-run.result _ _ _ c.tell.result (job_stands (g.S.Shelf.files c.args.shelf.now) c.args.job.now c.judge_files_serial-run.result c.judge_files_serial-run.ensures.said c.judge_files_serial-run.ensures.judged) c.judge_files_serial-run.ensures.cause c.tell.ensures.told
+    let run = c.judge_files_serial-run in
+    job_answers (g.S.Shelf.files c.args.shelf.now) c.args.job.now run.result (g.S.Shelf.faults c.args.shelf.now) (g.S.Shelf.faults run.new.shelf) _ c.tell_run.result run.ensures.said run.ensures.checked run.ensures.telling run.ensures.cause c.tell_run.ensures.told
 
-pub returns-clause-answered : goal.returns-clause-answered
-returns-clause-answered g c = job_answered (g.S.Shelf.files c.args.shelf.now) c.args.job.now _ _ c.tell.result (returns-clause-answer g c)
+pub tell_run-requires-clause-refusal : goal.tell_run-requires-clause-refusal
+tell_run-requires-clause-refusal g c = at_any c.judge_files_serial-run.result (λ (r : Refused). Unit {0}) (λ refusal. tt)

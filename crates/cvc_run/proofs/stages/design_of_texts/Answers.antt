@@ -3,7 +3,7 @@ use Rattle.std.proofs.lemmas.Result.{err_from_is_err_and}
 use Rattle.cvc_model.specs.Bindable.{AreBindable}
 use Rattle.cvc_model.specs.Models.{models_of}
 use Rattle.cvc_run.specs.Said.{flat_of_file}
-use Rattle.cvc_run.specs.declared.status.Status.TheVariants.{Models}
+use Rattle.cvc_run.specs.declared.stage.Stage.TheVariants.{Models}
 use Rattle.cvc_run.specs.declared.stages.Design.{Design}
 use Rattle.cvc_run.proofs.Loading.{loads_both, loads_gives, ok_in_step, unread_step}
 use Rattle.cvc_run.proofs.Runs.{list_of, rows_of, text_read, text_stops_at_models, text_stops_at_netlist}

@@ -1,11 +1,11 @@
 use Rattle.std.proofs.Common.{length, map}
 use Rattle.cvc_law.specs.Bound.{IsBound}
-use Rattle.cvc_run.specs.declared.status.Status.TheVariants.{Binding}
+use Rattle.cvc_run.specs.declared.stage.Stage.TheVariants.{Binding}
 use Rattle.std.proofs.lemmas.Result.{err_from_is_err_and}
 use Rattle.cvc_run.proofs.Runs.{whole_of}
 use Rattle.cvc_run.proofs.Loading.{ok_in_step}
 use Rattle.cvc_run.proofs.Steps.{bind_accepted, bind_stopped}
-use Rattle.cvc_run.proofs.bound.bind_design.Goals as goal
+use Rattle.cvc_run.proofs.whole.bind_design.Goals as goal
 
 pub returns-in_err-circuit-clause-said : goal.returns-in_err-circuit-clause-said
 returns-in_err-circuit-clause-said c =

@@ -4,15 +4,15 @@ ghost use Rattle.cvc_cdl.specs.Builder.{named_top};
 ghost use Rattle.cvc_law.specs.Bound.{IsBound};
 ghost use Rattle.cvc_model.specs.Bindable.{AreBindable};
 ghost use Rattle.cvc_power.specs.Power.{IsOrdered};
-ghost use Rattle.cvc_run.specs.Due.{DueFailed, job_readings};
+ghost use Rattle.cvc_run.specs.Due.{DueFailed, job_due};
 ghost use Rattle.cvc_run.specs.Said.{bound_of, bound_of_job, bound_with, parts, whole};
 ghost use Rattle.cvc_run.specs.Shelves.{Leaves};
 ghost use Rattle.cvc_run.specs.Stops.{ReadOnlyWhere, Says};
 
-use crate::Status;
-use crate::load::{as_load, as_step};
+use crate::RunStop;
+use crate::stage::{Refused, Stage};
 use crate::stages::{Design, design_of_texts, read_design, read_power_file};
-use crate::stop::RunStop;
+use crate::stop::{as_load, as_step};
 use cvc_bind::bind;
 use cvc_flat::Flat;
 use cvc_gen::Generated;
@@ -24,22 +24,22 @@ use std::alloc::Global;
 
 /// A circuit, and the flat list that it is bound from.
 #[derive(Drop)]
-pub(crate) struct Bound {
+pub(crate) struct Whole {
     pub flat: Flat,
     pub circuit: Circuit,
 }
 
 // The circuit of a design and power rows.
-fn bind_design(alloc: Global, design: Design, power: &Power) -> Result<Bound, RunStop>
+fn bind_design(alloc: Global, design: Design, power: &Power) -> Result<Whole, RunStop<Refused>>
     requires bindable { AreBindable design.models }
     requires ordered { All IsOrdered power.now }
-    ensures said { Says (λ b. whole b.flat.list b.circuit) result (bound_with (parts design.flat.list design.models) power.now) }
+    ensures said { Says (λ w. whole w.flat.list w.circuit) result (bound_with (parts design.flat.list design.models) power.now) }
     ensures unread { ReadOnlyWhere result ⊥ }
-    ensures bound { IfOk result (λ b. IsBound (length b.flat.list.nets) (map (λ d. d.pins) b.flat.list.devices) b.circuit) }
+    ensures bound { IfOk result (λ w. IsBound (length w.flat.list.nets) (map (λ d. d.pins) w.flat.list.devices) w.circuit) }
 {
     let Design { flat, models } = design;
-    let circuit = as_step(Status::Binding, as_load(bind(alloc, &flat, &models, power)))?;
-    Ok(Bound { flat, circuit })
+    let circuit = as_step(Stage::Binding, as_load(bind(alloc, &flat, &models, power)))?;
+    Ok(Whole { flat, circuit })
 }
 
 // The name of the top, if the job gives one.
@@ -52,17 +52,17 @@ fn top_of(job: &Job) -> Option<&[u8]>
     }
 }
 
-/// The circuit of a job's files, or why there is none. Each file is opened only when all before it were accepted.
+/// The circuit of a job's files, or why there is none. Each file is opened only when all before it were accepted, which is tested.
 pub(crate) fn bind_files<S: Shelf>(
     alloc: Global,
     job: &Job,
     shelf: &mut S,
-) -> Result<Bound, RunStop>
+) -> Result<Whole, RunStop<Refused>>
     requires { S.standing shelf.old ≡ None }
     ensures shelf { Leaves (S.standing shelf.new) (S.files shelf.old) (S.files shelf.new) (S.faults shelf.old) (S.faults shelf.new) }
-    ensures said { IfSome (S.files shelf.old) (λ fs. Says (λ b. whole b.flat.list b.circuit) result (bound_of_job fs job.now)) }
-    ensures cause { ReadOnlyWhere result (DueFailed (job_readings (S.files shelf.old) job.now) (S.faults shelf.old) (S.faults shelf.new)) }
-    ensures bound { IfOk result (λ b. IsBound (length b.flat.list.nets) (map (λ d. d.pins) b.flat.list.devices) b.circuit) }
+    ensures said { IfSome (S.files shelf.old) (λ fs. Says (λ w. whole w.flat.list w.circuit) result (bound_of_job fs job.now)) }
+    ensures cause { ReadOnlyWhere result (DueFailed (job_due (S.files shelf.old) job.now) (S.faults shelf.old) (S.faults shelf.new)) }
+    ensures bound { IfOk result (λ w. IsBound (length w.flat.list.nets) (map (λ d. d.pins) w.flat.list.devices) w.circuit) }
 {
     let design = read_design(alloc, &job.netlist, &job.models, top_of(job), shelf)?;
     let power = read_power_file(alloc, &job.power, shelf)?;
@@ -70,14 +70,14 @@ pub(crate) fn bind_files<S: Shelf>(
 }
 
 /// The circuit of generated texts, or why there is none. It reads no file.
-pub(crate) fn bind_texts(alloc: Global, texts: &Generated) -> Result<Bound, RunStop>
-    ensures said { Says (λ b. whole b.flat.list b.circuit) result (bound_of None texts.now.netlist texts.now.models texts.now.power) }
+pub(crate) fn bind_texts(alloc: Global, texts: &Generated) -> Result<Whole, RunStop<Refused>>
+    ensures said { Says (λ w. whole w.flat.list w.circuit) result (bound_of None texts.now.netlist texts.now.models texts.now.power) }
     ensures unread { ReadOnlyWhere result ⊥ }
-    ensures bound { IfOk result (λ b. IsBound (length b.flat.list.nets) (map (λ d. d.pins) b.flat.list.devices) b.circuit) }
+    ensures bound { IfOk result (λ w. IsBound (length w.flat.list.nets) (map (λ d. d.pins) w.flat.list.devices) w.circuit) }
 {
     let design = design_of_texts(alloc, &texts.netlist, &texts.models)?;
     let power = as_step(
-        Status::Power,
+        Stage::Power,
         as_load(read_power(alloc, texts.power.bytes())),
     )?;
     bind_design(alloc, design, &power)

@@ -1,12 +1,12 @@
 use Rattle.std.proofs.Common.{All, None}
 use Rattle.std.proofs.lemmas.Result.{err_from_is_err_and}
 use Rattle.cvc_power.specs.Power.{IsOrdered, power_of}
-use Rattle.cvc_run.specs.declared.status.Status.TheVariants.{Power}
-use Rattle.cvc_run.specs.declared.bound.Bound.{Bound}
+use Rattle.cvc_run.specs.declared.stage.Stage.TheVariants.{Power}
+use Rattle.cvc_run.specs.declared.whole.Whole.{Whole}
 use Rattle.cvc_run.proofs.Loading.{loads_both, ok_in_step, unread_step}
 use Rattle.cvc_run.proofs.Runs.{parts_of, spans_of, whole_of}
 use Rattle.cvc_run.proofs.Steps.{bound_at_design, bound_at_power, bound_read, says_accepted, says_stopped}
-use Rattle.cvc_run.proofs.bound.bind_texts.Goals as goal
+use Rattle.cvc_run.proofs.whole.bind_texts.Goals as goal
 
 pub returns-in_err-design-clause-said : goal.returns-in_err-design-clause-said
 returns-in_err-design-clause-said c =
@@ -37,4 +37,4 @@ returns-clause-said c =
 pub returns-in_err-power-clause-unread : goal.returns-in_err-power-clause-unread
 returns-in_err-power-clause-unread c =
     let p = err_from_is_err_and c.from_residual-in_err-power.result c.from_residual-in_err-power.ensures.1 in
-    rw (p.1, p.2) (unread_step Bound Power c.read_power.result c.as_load.result c.in_err-power.field-0.0 c.as_load.ensures c.in_err-power.ensures)
+    rw (p.1, p.2) (unread_step Whole Power c.read_power.result c.as_load.result c.in_err-power.field-0.0 c.as_load.ensures c.in_err-power.ensures)
