@@ -1,4 +1,0 @@
-//! Findings of circuits whose settled families and findings are known from outside.
-pub(crate) mod build;
-mod parallel;
-mod rows;
