@@ -12,6 +12,3 @@ pub mod Finding
 pub mod Comments
 pub mod Tokened
 pub mod Counted
-pub mod Judging
-pub mod JudgedFiles
-pub mod JudgedRows

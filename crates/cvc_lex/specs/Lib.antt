@@ -9,4 +9,3 @@ pub mod Stops
 pub mod Scanning
 pub mod Examples
 pub mod Laws
-pub mod Judged
