@@ -1,5 +1,5 @@
 -- The lines of nets, one behind another.
-use Rattle.std.proofs.Common.{◌≡◌, ℕ, zero, suc, ◌+◌, ◌-◌, ◌<◌, List, ◌++◌, refl, subst, arith, add-one}
+use Rattle.std.proofs.Common.{◌≡◌, ℕ, zero, suc, ◌+◌, ◌-◌, ◌<◌, List, refl, subst, arith, add-one}
 use Rattle.std.specs.Prelude.{Ok, Err}
 use Rattle.cvc_io.specs.declared.error.WriteFailed.{WriteFailed}
 use Rattle.cvc_flat.specs.Flat.{FlatList}

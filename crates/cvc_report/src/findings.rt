@@ -74,7 +74,8 @@ fn put_named<'a, K: Sink>(
 fn gate_pieces<'f>(circuit: &Circuit, flat: &'f Flat, finding: &Finding, gate: &mut Pieces<'f>)
     requires listed { nets circuit.now ≡ length flat.now.list.nets }
     requires device { finding.now.device.0 < devices circuit.now }
-    ensures { details_with (flat_map (λ w. w.now) gate.new.items) finding.now finding.now.rule ≡ details circuit.now flat.now.list finding.now finding.now.rule }
+    ensures { details_with (flat_map (λ w. w.now) gate.new.items) finding.now finding.now.rule
+        ≡ details circuit.now flat.now.list finding.now finding.now.rule }
 {
     match finding.rule {
         Rule::FloatingGate => flat.net_pieces(gate_at(circuit, finding.device), gate),

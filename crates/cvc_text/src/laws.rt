@@ -1,14 +1,14 @@
 //! Laws of texts that are put. Each is the contract of a function that does nothing.
-ghost use Rattle.std.specs.Prelude.{◌≡◌, ℕ, ◌<◌, List, [], ◌++◌, Option, Result, Ok, Err, length, take, get_or};
-ghost use Rattle.std.specs.List.{flat_map};
+ghost use Rattle.std.specs.Prelude.{◌≡◌, ℕ, List, [], ◌++◌, Option, Result, Ok, Err};
 ghost use Rattle.cvc_io.specs.declared.error.WriteFailed.{WriteFailed};
 ghost use Rattle.cvc_io.specs.Bytes.{WritesText, WritesPart};
 ghost use Rattle.cvc_io.specs.Causes.{HasCause};
-ghost use Rattle.cvc_text.specs.Putting.{Stand, stand, Puts};
+ghost use Rattle.cvc_text.specs.Putting.{Stand, stand, Puts, HasPut};
 
 /// Texts that are put one behind another are put as the one text of both, also where a write failed in the second. Where one failed in the first, the
-/// same is put of both, whatever was to come.
+/// same is put of both, whatever was to come. Where all stays as it was, nothing was put.
 pub fn texts_are_put_one_behind_another()
+    ensures none { (s : Stand) → HasPut s s [] }
     ensures both { (u : Unit {0}) (r : Result (Unit {0}) WriteFailed) (a b c : Stand) (x y : List ℕ)
         → Puts {T = Unit {0}} {E = WriteFailed} (Ok u) a b x → Puts r b c y → Puts r a c (x ++ y) }
     ensures stopped { (e f : WriteFailed) (a b : Stand) (x y : List ℕ)

@@ -1,8 +1,7 @@
-use Rattle.std.proofs.Common.{◌∷◌, List, ℕ, sym, ap, ◌∙◌, subst}
+use Rattle.std.proofs.Common.{◌∷◌, sym}
 use Rattle.std.proofs.lemmas.List.{take_all}
 use Rattle.std.proofs.lemmas.List.Folds.{flat_map-map}
 use Rattle.std.proofs.lemmas.Result.{err_from_is_err_and}
-use Rattle.std.specs.List.{flat_map}
 use Rattle.cvc_text.specs.Printed.{word_text}
 use Rattle.cvc_text.proofs.Putting.{item_put, item_stopped}
 use Rattle.cvc_text.proofs.buffer.TextBuffer.put_words.Goals as goal
