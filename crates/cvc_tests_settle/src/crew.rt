@@ -1,11 +1,11 @@
 //! Workers on whole circuits.
-ghost use Rattle.std.specs.Prelude.{◌≡◌, ◌≤◌, length, IfOk};
 
-use crate::rules::build::{Bounds, Card, UNKNOWN, at, circuit_of, mos, plain, within};
-use cvc_base::{Kind, NetId, NoMemory, Side};
+use crate::rules::build::{UNKNOWN, at, bounds_of, circuit_of, resistor};
+use crate::settling::{RING, ring};
+use cvc_base::{NetId, NoMemory, Side};
 use cvc_crew::{Gate, NoGate, settle, settle_tally, work};
 use cvc_field::Field;
-use cvc_law::{Circuit, Family};
+use cvc_law::Circuit;
 use cvc_serial::settle_serial;
 use std::alloc::Global;
 use std::sync::atomic::{AtomicU64, Ordering};
@@ -110,42 +110,6 @@ fn until_stolen() -> TwoHolds {
     ])
 }
 
-fn card(kind: Kind, threshold: i64, pins: [u32; 4]) -> Card {
-    Card {
-        model: mos(kind, threshold, threshold),
-        pins,
-    }
-}
-
-fn resistor(a: u32, b: u32) -> Card {
-    Card {
-        model: plain(Kind::Resistor),
-        pins: [a, b, 0, 0],
-    }
-}
-
-/// The nets a, b, c, vss and src, of which the first three are settled here.
-const RING: [Bounds; 5] = [
-    (Some(0), Some(3300)),
-    (Some(0), Some(3300)),
-    (Some(0), Some(2600)),
-    (Some(0), Some(0)),
-    (Some(0), Some(3300)),
-];
-
-/// Three pass gates in a ring, whose supply comes through two resistors.
-fn ring(alloc: Global) -> Result<Option<Circuit>, NoMemory> {
-    let declared = [UNKNOWN, UNKNOWN, UNKNOWN, at(0), within(0, 3300)];
-    let cards = [
-        card(Kind::Nmos, 700, [0, 1, 2, 3]),
-        card(Kind::Nmos, 700, [1, 2, 0, 3]),
-        card(Kind::Nmos, 700, [2, 0, 1, 3]),
-        resistor(4, 0),
-        resistor(4, 1),
-    ];
-    circuit_of(alloc, &declared, &cards, 5)
-}
-
 /// The nets src, hub and 32 leaves. Devices 0 to 31 are resistors from the hub to one leaf each, and device 32 is one from src to the hub.
 fn star(alloc: Global) -> Result<Option<Circuit>, NoMemory> {
     let mut declared = vec![in alloc; UNKNOWN; 34]?;
@@ -158,25 +122,10 @@ fn star(alloc: Global) -> Result<Option<Circuit>, NoMemory> {
     circuit_of(alloc, &declared, &cards, 33)
 }
 
-/// The bounds of each net of a family, in millivolts.
-fn bounds_of(alloc: Global, family: &Family, nets: u32) -> Result<Vec<Bounds>, NoMemory>
-    requires { nets ≤ length family.now }
-{
-    let mut all = Vec::new(alloc);
-    for n in 0..nets {
-        let interval = family.interval(NetId(n));
-        all.push((
-            interval.low.map(|v| v.get()),
-            interval.high.map(|v| v.get()),
-        ))?;
-    }
-    Ok(all)
-}
-
 #[test]
 fn ring_of_pass_gates_by_any_number_of_workers(rt: HostRuntime) -> Result<(), Fail> {
     let alloc = rt.alloc();
-    let circuit = ring(alloc)?.ok_or("no circuit")?;
+    let circuit = ring(alloc)?;
     let alone = settle_serial(alloc, &circuit)?;
     let found = bounds_of(alloc, &alone, circuit.nets())?;
     assert_eq!(rt; found.as_slice(), RING.as_slice());
@@ -202,7 +151,7 @@ fn many_workers_and_no_device(rt: HostRuntime) -> Result<(), Fail> {
 #[test]
 fn workers_take_every_device_in_settle(rt: HostRuntime) -> Result<(), Fail> {
     let alloc = rt.alloc();
-    let circuit = ring(alloc)?.ok_or("no circuit")?;
+    let circuit = ring(alloc)?;
     let gate = until_every_device(5);
     let family = settle(&rt, alloc, &circuit, 2, &gate)?;
     assert_eq!(rt; gate.ended.load(Ordering::SeqCst), 2);
@@ -214,7 +163,7 @@ fn workers_take_every_device_in_settle(rt: HostRuntime) -> Result<(), Fail> {
 #[test]
 fn workers_take_every_device_in_work(rt: HostRuntime) -> Result<(), Fail> {
     let alloc = rt.alloc();
-    let circuit = ring(alloc)?.ok_or("no circuit")?;
+    let circuit = ring(alloc)?;
     let gate = until_every_device(5);
     let (field, hand) = Field::new(alloc, &circuit, 2)?;
     let Ok(hand) = work(&rt, alloc, &circuit, &field, hand, &gate) else {

@@ -7,6 +7,8 @@ mod conduction;
 #[cfg(test)]
 mod crew;
 #[cfg(test)]
+mod derivations;
+#[cfg(test)]
 mod reports;
 #[cfg(test)]
 mod rules;

@@ -1,5 +1,5 @@
 //! Circuits from tables, and their findings.
-ghost use Rattle.std.specs.Prelude.{◌≡◌, ℕ, ◌<◌, pos, ◌≤ℤ◌, IsTrue, IfOk, length};
+ghost use Rattle.std.specs.Prelude.{◌≡◌, ℕ, ◌<◌, ◌≤◌, pos, ◌≤ℤ◌, IsTrue, IfOk, length};
 ghost use Rattle.cvc_law.specs.Network.{pin, pins_of, HasPins, IsDevice, IsCircuit};
 ghost use Rattle.cvc_tests_settle.specs.TestCircuits.{AreOnNets, AreDevices, AreOrdered};
 
@@ -57,6 +57,13 @@ pub fn mos(kind: Kind, threshold: i64, weak: i64) -> Model {
 pub struct Card {
     pub model: Model,
     pub pins: [u32; 4],
+}
+
+pub fn resistor(a: u32, b: u32) -> Card {
+    Card {
+        model: plain(Kind::Resistor),
+        pins: [a, b, 0, 0],
+    }
 }
 
 fn limit(voltage: Option<i64>) -> Option<Mv> {
@@ -243,4 +250,19 @@ pub fn family_of(alloc: Global, settled: &[Bounds]) -> Result<Family, NoMemory>
         })?;
     }
     Ok(Family::new(intervals))
+}
+
+/// The bounds of each net of a family, in millivolts.
+pub fn bounds_of(alloc: Global, family: &Family, nets: u32) -> Result<Vec<Bounds>, NoMemory>
+    requires { nets ≤ length family.now }
+{
+    let mut all = Vec::new(alloc);
+    for n in 0..nets {
+        let interval = family.interval(NetId(n));
+        all.push((
+            interval.low.map(|v| v.get()),
+            interval.high.map(|v| v.get()),
+        ))?;
+    }
+    Ok(all)
 }
