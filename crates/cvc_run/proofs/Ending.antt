@@ -1,114 +1,42 @@
--- What a run may answer that told its ending, and that accepted input is answered.
+-- What the runs of a job and of a survey answer.
 use Rattle.std.proofs.Common.{◌≡◌, ℕ, inl, inr, List, [], ◌∷◌, Option, Some, None, refl, sym, ap, subst}
-use Rattle.std.specs.Prelude.{IfSome, IfOk, IsOk, IsSomeAnd, Result, Ok, Err, ◌⊎◌}
+use Rattle.std.specs.Prelude.{IfSome, IfOk, IsOk, IsSomeAnd, Result, Ok, Err}
 use Rattle.cvc_base.specs.declared.finding.Finding.{Finding}
 use Rattle.cvc_io.specs.Files.{Counts, Files}
 use Rattle.cvc_law.specs.declared.interval.Interval.{Interval}
 use Rattle.cvc_law.specs.Rules.{findings_of}
 use Rattle.cvc_run.specs.Due.{DueFailed}
 use Rattle.cvc_run.specs.Outcome.{Behind, IsEnd, IsJobOutcome, IsOfFiles, JobOutcome, job_run, refused_ending, report_of, status_of, survey_run, survey_said}
-use Rattle.cvc_run.specs.Outside.{Ending, Ends, MayAnswer, Outcome, SinkFailed, Taken, Wrote, ending}
-use Rattle.cvc_run.specs.Run.{Answers, IsAnswered, no_shelf}
+use Rattle.cvc_run.specs.Outside.{Ending, Taken, ending}
+use Rattle.cvc_run.specs.Run.{Answers, no_shelf}
 use Rattle.cvc_run.specs.Said.{Whole, bound_of_job}
 use Rattle.cvc_run.specs.Stages.{status_at}
 use Rattle.cvc_run.specs.Stops.{Says, ReadOnlyWhere}
-use Rattle.cvc_run.specs.Telling.{IsChecked, TellsRun, checked_ending, checked_whole, told_by}
+use Rattle.cvc_run.specs.Telling.{IsAccepted, IsChecked, IsTold, Stands, TellsRun, checked_ending, checked_whole, told_by}
 use Rattle.cvc_run.specs.declared.checked.Checked.{Checked}
 use Rattle.cvc_run.specs.declared.checked.Telling.{Telling}
 use Rattle.cvc_run.specs.declared.checked.Telling.TheVariants.{Report, Summary}
 use Rattle.cvc_run.specs.declared.stage.Refused.{Refused}
 use Rattle.cvc_run.specs.declared.stage.Stage.{Stage}
-use Rattle.cvc_run.specs.declared.stage.Stage.TheVariants as stages
 use Rattle.cvc_run.specs.declared.status.Status.{Status}
-use Rattle.cvc_run.specs.declared.status.Status.TheVariants as s
 use Rattle.cvc_run.specs.declared.stop.RunStop.{RunStop}
 use Rattle.cvc_run.specs.declared.stop.RunStop.TheVariants.{At, Read, NoMemory}
+use Rattle.cvc_run.proofs.Answering.{accepted_findings, run_answers, told_findings, told_refused}
 use Rattle.cvc_words.specs.declared.command.Job.{Job}
 
--- ## A text that was told
-
--- the statuses that come with their whole text
-abbrev IsTold : Status → Type 0
-IsTold s.ReadFault = ⊥
-IsTold s.WriteFault = ⊥
-IsTold s.NoMemory = ⊥
-IsTold _ = Unit {0}
-
-told_whole : (outcome : Outcome) (failed : Type 0) (t : Taken) (status : Status) (text : List ℕ) → IsTold status → outcome (ending status text) → Wrote t text → MayAnswer outcome failed t status
-told_whole outcome failed t s.Clean text told is wrote = (text, is, wrote)
-told_whole outcome failed t s.Errors text told is wrote = (text, is, wrote)
-told_whole outcome failed t s.Words text told is wrote = (text, is, wrote)
-told_whole outcome failed t s.Netlist text told is wrote = (text, is, wrote)
-told_whole outcome failed t s.Models text told is wrote = (text, is, wrote)
-told_whole outcome failed t s.Power text told is wrote = (text, is, wrote)
-told_whole outcome failed t s.Binding text told is wrote = (text, is, wrote)
-told_whole outcome failed t s.ReadFault text told is wrote = absurd told
-told_whole outcome failed t s.WriteFault text told is wrote = absurd told
-told_whole outcome failed t s.NoMemory text told is wrote = absurd told
-
-module _ (outcome : Outcome) (failed : Type 0) (t : Taken) (result : Status) where
-  answers_at : (status : Status) → result ≡ status → MayAnswer outcome failed t status → MayAnswer outcome failed t result
-  answers_at status e h = subst (λ (r : Status). MayAnswer outcome failed t r) (sym e) h
-
-  told_answers : (e : Ending) → IsTold e.status → outcome e → Ends e t result → MayAnswer outcome failed t result
-  told_answers e told is (inl (same, wrote)) = answers_at e.status same (told_whole outcome failed t e.status e.text told is wrote)
-  told_answers e told is (inr (same, rose, front)) = answers_at s.WriteFault same (rose, (e, is, front))
-
--- ## A run that was told
-
-told_at : (stage : Stage) → IsTold (status_at stage)
-told_at stages.Netlist = tt
-told_at stages.Models = tt
-told_at stages.Power = tt
-told_at stages.Binding = tt
-
-told_findings : (found : List Finding) → IsTold (status_of found)
-told_findings [] = tt
-told_findings (x ∷ xs) = tt
-
--- what a run tells is its outcome
-abbrev pub Stands : Result Checked (RunStop Refused) → Outcome → Type 0
-Stands (Ok c) outcome = outcome (checked_ending c)
-Stands (Err (At r)) outcome = outcome (refused_ending r)
-Stands (Err Read) outcome = Unit {0}
-Stands (Err NoMemory) outcome = Unit {0}
-
-run_answers : (run : Result Checked (RunStop Refused)) (outcome : Outcome) (failed : Type 0) (t : Taken) (result : Status) → Stands run outcome → ReadOnlyWhere run failed → TellsRun checked_ending refused_ending run t result
-    → MayAnswer outcome failed t result
-run_answers (Ok c) outcome failed t result stands cause told = told_answers outcome failed t result (checked_ending c) (told_findings c.judged.findings) stands told
-run_answers (Err (At r)) outcome failed t result stands cause told = told_answers outcome failed t result (refused_ending r) (told_at r.stage) stands told
-run_answers (Err Read) outcome failed t result stands cause (e, nothing) = answers_at outcome failed t result s.ReadFault e (cause, nothing)
-run_answers (Err NoMemory) outcome failed t result stands cause (e, nothing) = answers_at outcome failed t result s.NoMemory e nothing
+told_checked : (c : Checked) → IsTold (checked_ending c).status
+told_checked c = told_findings c.judged.findings
 
 -- ## Accepted input
 
-abbrev IsAccepted : Status → Type 0
-IsAccepted status = (status ≡ s.Clean) ⊎ (status ≡ s.Errors)
-
-clean_or_errors : (found : List Finding) (status : Status) → status ≡ status_of found → IsAccepted status
-clean_or_errors [] status e = inl e
-clean_or_errors (x ∷ xs) status e = inr e
-
 -- an accepted end has a status of accepted input
 end_accepted : (told : Whole → List Interval → List ℕ) (said : Result Whole Refused) (e : Ending) → IsOk said → Behind refused_ending said (IsEnd told) e → IsAccepted e.status
-end_accepted told (Ok w) e ok end = clean_or_errors (findings_of w.circuit end.0) e.status (ap (λ x. x.status) end.2)
+end_accepted told (Ok w) e ok end = accepted_findings (findings_of w.circuit end.0) e.status (ap (λ x. x.status) end.2)
 end_accepted told (Err refusal) e ok end = cc
 
 job_accepted : (files : Option Files) (job : Job) (e : Ending) → IsSomeAnd files (λ fs. IsOk (bound_of_job fs job)) → JobOutcome files job e → IsAccepted e.status
 job_accepted None job e ok end = absurd ok
 job_accepted (Some fs) job e ok end = end_accepted (report_of job.nets) (bound_of_job fs job) e ok end.1
-
-answered : (outcome : Outcome) (failed : Type 0) (t : Taken) (status : Status) → ((e : Ending) → outcome e → IsAccepted e.status) → MayAnswer outcome failed t status → (failed → ⊥) → (SinkFailed t → ⊥) → IsAnswered outcome t status
-answered outcome failed t s.Clean only h shelf sink = inr (only (ending s.Clean h.0) h.1, h)
-answered outcome failed t s.Errors only h shelf sink = inr (only (ending s.Errors h.0) h.1, h)
-answered outcome failed t s.Words only h shelf sink = inr (only (ending s.Words h.0) h.1, h)
-answered outcome failed t s.Netlist only h shelf sink = inr (only (ending s.Netlist h.0) h.1, h)
-answered outcome failed t s.Models only h shelf sink = inr (only (ending s.Models h.0) h.1, h)
-answered outcome failed t s.Power only h shelf sink = inr (only (ending s.Power h.0) h.1, h)
-answered outcome failed t s.Binding only h shelf sink = inr (only (ending s.Binding h.0) h.1, h)
-answered outcome failed t s.ReadFault only h shelf sink = absurd (shelf h.0)
-answered outcome failed t s.WriteFault only h shelf sink = absurd (sink h.0)
-answered outcome failed t s.NoMemory only h shelf sink = inl refl
 
 -- ## A run of what the files say
 
@@ -133,7 +61,7 @@ of_told None P Q f h = tt
 of_told (Some fs) P Q f h = f fs h
 
 job_stands : (files : Option Files) (job : Job) (run : Result Checked (RunStop Refused)) → IfSome files (λ fs. Says checked_whole run (bound_of_job fs job)) → IfOk run IsChecked → IfOk run (λ c. c.telling ≡ Report job.nets)
-    → Stands run (JobOutcome files job)
+    → Stands checked_ending refused_ending run (JobOutcome files job)
 job_stands files job (Ok c) says checked same =
     (of_findings c.judged.findings, of_told files (λ fs. bound_of_job fs job ≡ Ok (checked_whole c)) (λ fs. IsJobOutcome fs job (checked_ending c)) (λ fs h. ended (Report job.nets) c (bound_of_job fs job) checked same h) says)
 job_stands files job (Err (At r)) says checked same =
@@ -142,7 +70,7 @@ job_stands files job (Err Read) says checked same = tt
 job_stands files job (Err NoMemory) says checked same = tt
 
 survey_stands : (seed size : ℕ) (run : Result Checked (RunStop Refused)) → Says checked_whole run (survey_said seed size) → IfOk run IsChecked → IfOk run (λ c. c.telling ≡ Summary seed size)
-    → Stands run (survey_run seed size).outcome
+    → Stands checked_ending refused_ending run (survey_run seed size).outcome
 survey_stands seed size (Ok c) says checked same = ended (Summary seed size) c (survey_said seed size) checked same says
 survey_stands seed size (Err (At r)) says checked same = refused_so (told_by (Summary seed size)) r (survey_said seed size) says
 survey_stands seed size (Err Read) says checked same = tt
@@ -153,13 +81,10 @@ survey_stands seed size (Err NoMemory) says checked same = tt
 pub job_answers : (files : Option Files) (job : Job) (run : Result Checked (RunStop Refused)) (before after : Counts) (t : Taken) (result : Status) → IfSome files (λ fs. Says checked_whole run (bound_of_job fs job)) → IfOk run IsChecked
     → IfOk run (λ c. c.telling ≡ Report job.nets) → ReadOnlyWhere run (DueFailed (job_run files job).due before after) → TellsRun checked_ending refused_ending run t result → Answers (job_run files job) before after t result
 job_answers files job run before after t result says checked same cause told =
-    let failed = DueFailed (job_run files job).due before after in
-    let may : MayAnswer (JobOutcome files job) failed t result = run_answers run (JobOutcome files job) failed t result (job_stands files job run says checked same) cause told in
-    (may, λ accepted shelf sink. answered (JobOutcome files job) failed t result (λ e end. job_accepted files job e accepted end) may shelf sink)
+    run_answers checked_ending refused_ending told_checked told_refused (job_run files job) run before after t result (λ e accepted end. job_accepted files job e accepted end) (job_stands files job run says checked same) cause told
 
 pub survey_answers : (seed size : ℕ) (run : Result Checked (RunStop Refused)) (t : Taken) (result : Status) → Says checked_whole run (survey_said seed size) → IfOk run IsChecked → IfOk run (λ c. c.telling ≡ Summary seed size)
     → ReadOnlyWhere run ⊥ → TellsRun checked_ending refused_ending run t result → Answers (survey_run seed size) no_shelf no_shelf t result
 survey_answers seed size run t result says checked same cause told =
-    let outcome = (survey_run seed size).outcome in
-    let may : MayAnswer outcome ⊥ t result = run_answers run outcome ⊥ t result (survey_stands seed size run says checked same) cause told in
-    (may, λ accepted shelf sink. answered outcome ⊥ t result (λ e end. end_accepted (told_by (Summary seed size)) (survey_said seed size) e accepted end) may shelf sink)
+    run_answers checked_ending refused_ending told_checked told_refused (survey_run seed size) run no_shelf no_shelf t result (λ e accepted end. end_accepted (told_by (Summary seed size)) (survey_said seed size) e accepted end)
+    (survey_stands seed size run says checked same) cause told

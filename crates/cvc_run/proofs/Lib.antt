@@ -9,5 +9,6 @@ pub mod Steps
 pub mod Contents
 pub mod FaultFiles
 pub mod Runs
+pub mod Answering
 pub mod Ending
 pub mod Fronts

@@ -98,6 +98,14 @@ pub accepted_design : (top : Option (List ℕ)) (files : Option Files) (netlist 
 accepted_design top None netlist models d h = (refl, refl)
 accepted_design top (Some fs) netlist models d h = let both = design_accepted top (content fs netlist) (content fs models) d h in (ap is_ok both.0, ap is_ok both.1)
 
+pub bound_design : (top : Option (List ℕ)) (netlist models power : List ℕ) (w : Whole) → bound_of top netlist models power ≡ Ok w → (d : Parts) × (design_of top netlist models ≡ Ok d)
+unfolding bound_of
+bound_design top netlist models power w e = by (design_of top netlist models) refl e
+  where
+    by : (r : Result Parts Refused) → design_of top netlist models ≡ r → ◌>>=◌ r (λ d. ◌>>=◌ (at_stage Power (power_of power)) (bound_with d)) ≡ Ok w → (d : Parts) × (design_of top netlist models ≡ Ok d)
+    by (Ok d) is e = (d, is)
+    by (Err refusal) is e = cc
+
 -- ## Binding
 
 module _ (f : FlatList) (rows : List ModelRow) (power : List PowerRow) (r : Result Network Refusal) (gives : Gives (λ c. c) r (circuit_of f rows power)) (l : Result Network (RunStop Fault)) (loaded : l ≡ as_load r) where

@@ -6,7 +6,7 @@ use Rattle.cvc_io.specs.Causes.{Rose}
 use Rattle.cvc_io.specs.Files.{Files, Counts, content}
 use Rattle.cvc_model.specs.Models.{models_of}
 use Rattle.cvc_power.specs.Power.{power_of}
-use Rattle.cvc_run.specs.Said.{flat_of_file}
+use Rattle.cvc_run.specs.Said.{bound_of, flat_of_file}
 use Rattle.cvc_words.specs.declared.command.Job.{Job}
 
 -- a file of a run: its name, and whether it is accepted, as far as the files are told
@@ -43,6 +43,24 @@ no_file = Named []
 abbrev pub design_due : Option Files → Option (List ℕ) → List ℕ → List ℕ → Due
 design_due files top netlist models = Named (reading (flat_of_file top) files netlist ∷ reading models_of files models ∷ [])
 
+-- the netlist, the models and the power file
+abbrev pub files_due : Option Files → Option (List ℕ) → List ℕ → List ℕ → List ℕ → Due
+files_due files top netlist models power = Named (reading (flat_of_file top) files netlist ∷ reading models_of files models ∷ reading power_of files power ∷ [])
+
 -- the three files of a job
 abbrev pub job_due : Option Files → Job → Due
-job_due files job = Named (reading (flat_of_file job.top) files job.netlist ∷ reading models_of files job.models ∷ reading power_of files job.power ∷ [])
+job_due files job = files_due files job.top job.netlist job.models job.power
+
+-- ## Files that are read behind binding: the power file counts as accepted only where all three are bound
+
+abbrev pub are_bound : Option Files → Option (List ℕ) → List ℕ → List ℕ → List ℕ → Bool
+are_bound None top netlist models power = true
+are_bound (Some fs) top netlist models power = is_ok (bound_of top (content fs netlist) (content fs models) (content fs power))
+
+abbrev pub bound_reading : Option Files → Option (List ℕ) → List ℕ → List ℕ → List ℕ → Reading
+bound_reading files top netlist models power = record { name = power; accepted = are_bound files top netlist models power }
+
+-- the three files, and these behind them
+abbrev pub bound_due : Option Files → Option (List ℕ) → List ℕ → List ℕ → List ℕ → List Reading → Due
+bound_due files top netlist models power later =
+    Named (reading (flat_of_file top) files netlist ∷ reading models_of files models ∷ bound_reading files top netlist models power ∷ later)

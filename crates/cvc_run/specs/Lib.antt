@@ -11,3 +11,4 @@ pub mod Outside
 pub mod Run
 pub mod Outcome
 pub mod Telling
+pub mod Lines

@@ -4,6 +4,7 @@
 #![tactic(auto)]
 
 mod checked;
+mod lines;
 mod load;
 mod netlist;
 mod run;
@@ -14,10 +15,12 @@ mod stop;
 mod telling;
 mod whole;
 
-pub use load::load_file;
+pub use lines::{LineCause, LineRefused, RunRefused, Subject};
+pub use load::{load_file, load_text};
 pub use run::{check, check_serial, survey};
 pub use stage::{Refused, Stage};
-pub use stages::{Design, load_design};
+pub use stages::{Design, load_design, read_design, read_power_file};
 pub use status::Status;
 pub use stop::{LoadFault, RunStop};
 pub use telling::{Told, tell, tell_run};
+pub use whole::{Whole, bind_files};

@@ -7,7 +7,7 @@ ghost use Rattle.cvc_run.specs.Rests.{OfRest};
 ghost use Rattle.cvc_run.specs.Shelves.{Leaves};
 ghost use Rattle.cvc_run.specs.Stops.{IsNeverAt, ReadOnlyWhere};
 
-use crate::LoadFault;
+use crate::{LoadFault, RunStop};
 use cvc_base::Text;
 use cvc_io::Shelf;
 use std::alloc::Global;
@@ -102,4 +102,25 @@ pub fn load_file<S: Shelf>(
     let mut bytes = read_file(alloc, name.bytes(), limit as usize, shelf)?;
     bytes.truncate(limit as usize + 1);
     Ok(Text::from_vec(bytes))
+}
+
+/// The same for a step of any run, which it never refuses: `Read` comes only where the name has failed in this call.
+pub fn load_text<F, S: Shelf>(
+    alloc: Global,
+    name: &Text,
+    limit: u64,
+    shelf: &mut S,
+) -> Result<Text, RunStop<F>>
+    requires limit { limit ≤ 134217728 }
+    requires closed { S.standing shelf.old ≡ None }
+    ensures bytes { IfOk result (λ text. OfContent (S.files shelf.old) name.now (λ content. text ≡ up_to limit content)) }
+    ensures never_at { IsNeverAt result }
+    ensures cause { ReadOnlyWhere result (Rose (S.faults shelf.old name.now) (S.faults shelf.new name.now)) }
+    ensures shelf { Leaves (S.standing shelf.new) (S.files shelf.old) (S.files shelf.new) (S.faults shelf.old) (S.faults shelf.new) }
+{
+    match load_file(alloc, name, limit, shelf) {
+        Ok(text) => Ok(text),
+        Err(LoadFault::NoMemory) => Err(RunStop::NoMemory),
+        Err(_) => Err(RunStop::Read),
+    }
 }

@@ -1,10 +1,12 @@
 //! The runs of a check.
-ghost use Rattle.std.specs.Prelude.{◌≡◌, ◌≤◌, None, IfOk, IfSome};
+ghost use Rattle.std.specs.Prelude.{◌≡◌, ◌≤◌, None, IfOk, IfSome, length, map};
+ghost use Rattle.cvc_cdl.specs.Builder.{named_top};
+ghost use Rattle.cvc_law.specs.Bound.{IsBound};
 ghost use Rattle.cvc_run.specs.Due.{DueFailed, job_due};
 ghost use Rattle.cvc_run.specs.Outcome.{job_run, survey_run, survey_said};
 ghost use Rattle.cvc_run.specs.Outside.{taken};
 ghost use Rattle.cvc_run.specs.Run.{Answers, no_shelf};
-ghost use Rattle.cvc_run.specs.Said.{bound_of_job};
+ghost use Rattle.cvc_run.specs.Said.{bound_of_job, whole};
 ghost use Rattle.cvc_run.specs.Shelves.{Leaves};
 ghost use Rattle.cvc_run.specs.Stops.{ReadOnlyWhere, Says};
 ghost use Rattle.cvc_run.specs.Telling.{IsChecked, checked_whole};
@@ -15,6 +17,7 @@ use crate::stage::Refused;
 use crate::telling::tell_run;
 use crate::whole::{Whole, bind_files, bind_texts};
 use crate::{RunStop, Status};
+use cvc_base::Text;
 use cvc_crew::Gate;
 use cvc_gen::netlist_of;
 use cvc_io::{Shelf, Sink};
@@ -23,6 +26,34 @@ use cvc_words::Job;
 use std::alloc::Global;
 use std::sync::Wait;
 use std::thread::Threads;
+
+// The name of the top, if the job gives one.
+fn top_of(job: &Job) -> Option<&Text>
+    ensures { named_top result ≡ job.now.top }
+{
+    match &job.top {
+        Some(name) => Some(name),
+        None => None,
+    }
+}
+
+// The circuit of a job's files, or why there is none.
+fn bind_job<S: Shelf>(alloc: Global, job: &Job, shelf: &mut S) -> Result<Whole, RunStop<Refused>>
+    requires { S.standing shelf.old ≡ None }
+    ensures shelf { Leaves (S.standing shelf.new) (S.files shelf.old) (S.files shelf.new) (S.faults shelf.old) (S.faults shelf.new) }
+    ensures said { IfSome (S.files shelf.old) (λ fs. Says (λ w. whole w.flat.list w.circuit) result (bound_of_job fs job.now)) }
+    ensures cause { ReadOnlyWhere result (DueFailed (job_due (S.files shelf.old) job.now) (S.faults shelf.old) (S.faults shelf.new)) }
+    ensures bound { IfOk result (λ w. IsBound (length w.flat.list.nets) (map (λ d. d.pins) w.flat.list.devices) w.circuit) }
+{
+    bind_files(
+        alloc,
+        &job.netlist,
+        &job.models,
+        &job.power,
+        top_of(job),
+        shelf,
+    )
+}
 
 // The judged circuit of a job's files, on one thread.
 fn judge_files_serial<S: Shelf>(
@@ -37,7 +68,7 @@ fn judge_files_serial<S: Shelf>(
     ensures checked { IfOk result IsChecked }
     ensures telling { IfOk result (λ c. c.telling ≡ tellings.Report job.now.nets) }
 {
-    let Whole { flat, circuit } = bind_files(alloc, job, shelf)?;
+    let Whole { flat, circuit } = bind_job(alloc, job, shelf)?;
     let judged = judge_serial(alloc, circuit)?;
     Ok(Checked {
         flat,
@@ -63,7 +94,7 @@ fn judge_files<R: Threads + Wait + Sync, S: Shelf, G: Gate>(
     ensures checked { IfOk result IsChecked }
     ensures telling { IfOk result (λ c. c.telling ≡ tellings.Report job.now.nets) }
 {
-    let Whole { flat, circuit } = bind_files(alloc, job, shelf)?;
+    let Whole { flat, circuit } = bind_job(alloc, job, shelf)?;
     let judged = judge(rt, alloc, circuit, job.workers, gate)?;
     Ok(Checked {
         flat,

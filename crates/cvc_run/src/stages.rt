@@ -88,12 +88,23 @@ fn load_power<S: Shelf>(alloc: Global, name: &Text, shelf: &mut S) -> Result<Pow
     as_load(read_power(alloc, text.bytes()))
 }
 
-/// The flat list and the model rows of two files. The second is opened only when the first is accepted, which is tested.
-pub(crate) fn read_design<S: Shelf>(
+// The bytes of a name, if there is one.
+fn name_bytes(name: Option<&Text>) -> Option<&[u8]>
+    ensures { named_top result ≡ named_top name.entry }
+{
+    match name {
+        Some(text) => Some(text.bytes()),
+        None => None,
+    }
+}
+
+/// The flat list and the model rows of two files, as a run reads them: the first fault comes with its stage. The models are opened only when the netlist
+/// is accepted, which is tested. It leaves no file open. `Read` comes only where a file that was due has failed in this call.
+pub fn read_design<S: Shelf>(
     alloc: Global,
     netlist: &Text,
     models: &Text,
-    top: Option<&[u8]>,
+    top: Option<&Text>,
     shelf: &mut S,
 ) -> Result<Design, RunStop<Refused>>
     requires { S.standing shelf.old ≡ None }
@@ -104,19 +115,12 @@ pub(crate) fn read_design<S: Shelf>(
         (DueFailed (design_due (S.files shelf.old) (named_top top.entry) netlist.now models.now) (S.faults shelf.old) (S.faults shelf.new)) }
     ensures shelf { Leaves (S.standing shelf.new) (S.files shelf.old) (S.files shelf.new) (S.faults shelf.old) (S.faults shelf.new) }
 {
-    let flat = as_step(Stage::Netlist, load_flat(alloc, netlist, top, shelf))?;
+    let flat = as_step(
+        Stage::Netlist,
+        load_flat(alloc, netlist, name_bytes(top), shelf),
+    )?;
     let models = as_step(Stage::Models, load_models(alloc, models, shelf))?;
     Ok(Design { flat, models })
-}
-
-// The bytes of a name, if there is one.
-fn name_bytes(name: Option<&Text>) -> Option<&[u8]>
-    ensures { named_top result ≡ named_top name.entry }
-{
-    match name {
-        Some(text) => Some(text.bytes()),
-        None => None,
-    }
 }
 
 /// The flat list of a netlist file, whose top is the cell of this name, and the rows of a models file. The models are opened only when the netlist is
@@ -139,14 +143,15 @@ pub fn load_design<S: Shelf>(
         (DueFailed (design_due (S.files shelf.old) (named_top top.entry) netlist.now models.now) (S.faults shelf.old) (S.faults shelf.new)) }
     ensures shelf { Leaves (S.standing shelf.new) (S.files shelf.old) (S.files shelf.new) (S.faults shelf.old) (S.faults shelf.new) }
 {
-    match read_design(alloc, netlist, models, name_bytes(top), shelf) {
+    match read_design(alloc, netlist, models, top, shelf) {
         Ok(design) => Ok(design),
         Err(stop) => Err(stop.load_fault()),
     }
 }
 
-/// The power rows of the file of this name.
-pub(crate) fn read_power_file<S: Shelf>(
+/// The power rows of the file of this name, as a run reads them: the first fault comes with its stage. It leaves no file open. `Read` comes only where the
+/// name has failed in this call.
+pub fn read_power_file<S: Shelf>(
     alloc: Global,
     name: &Text,
     shelf: &mut S,

@@ -2,7 +2,7 @@
 ghost use Rattle.std.specs.Prelude.{◌≡◌};
 ghost use Rattle.cvc_run.specs.Codes.{code_of};
 
-/// How a run ends. All but the last three come with their whole text written.
+/// How a run ends. All but a read fault, a write fault and want of memory come with their whole text written.
 #[derive(Clone, Copy, Debug, PartialEq, Eq)]
 pub enum Status {
     /// Accepted, without a finding.
@@ -25,6 +25,14 @@ pub enum Status {
     WriteFault,
     /// There was no memory. Nothing was written.
     NoMemory,
+    /// The log or the report that is to be verified is refused.
+    Certificate,
+    /// The file of expected bounds is refused.
+    Expected,
+    /// The list of modes is refused.
+    Modes,
+    /// The file of edits is refused.
+    Edits,
 }
 
 impl Status {
@@ -43,6 +51,10 @@ impl Status {
             Status::ReadFault => 7,
             Status::WriteFault => 8,
             Status::NoMemory => 9,
+            Status::Certificate => 10,
+            Status::Expected => 11,
+            Status::Modes => 12,
+            Status::Edits => 13,
         }
     }
 }
