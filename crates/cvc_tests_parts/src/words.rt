@@ -1,7 +1,7 @@
 //! Lines of words: their commands, and their first faults.
 
 use cvc_base::{Text, Texts};
-use cvc_words::{Command, WordRefusal, read_words};
+use cvc_words::{Command, Job, WordRefusal, read_words};
 use std::alloc::Global;
 use std::test::Fail;
 
@@ -64,6 +64,14 @@ fn refused_words(rt: HostRuntime) -> Result<(), Fail> {
     Ok(())
 }
 
+// The job of a command that has one.
+fn job_of(found: &Result<Command, WordRefusal>) -> Option<&Job> {
+    match found {
+        Ok(Command::Check(job) | Command::Serial(job)) => Some(job),
+        _ => None,
+    }
+}
+
 #[test]
 fn jobs(rt: HostRuntime) -> Result<(), Fail> {
     let alloc = rt.alloc();
@@ -87,8 +95,9 @@ fn jobs(rt: HostRuntime) -> Result<(), Fail> {
         (b"check  m p workers=1", b"", b"", 1, false),
     ] {
         let words = words_of(alloc, line)?;
-        match read_words(alloc, &words) {
-            Ok(Command::Check(job) | Command::Serial(job)) => {
+        let found = read_words(alloc, &words);
+        match job_of(&found) {
+            Some(job) => {
                 assert_eq!(rt; job.netlist.bytes(), netlist);
                 assert_eq!(rt;
                     job.top.as_ref().map_or(b"".as_slice(), |name| name.bytes()),
@@ -97,7 +106,7 @@ fn jobs(rt: HostRuntime) -> Result<(), Fail> {
                 assert_eq!(rt; job.workers, workers);
                 assert_eq!(rt; job.nets, nets);
             }
-            _ => assert!(rt; false, "no job: {line:?}"),
+            None => assert!(rt; false, "no job: {line:?}"),
         }
     }
     Ok(())

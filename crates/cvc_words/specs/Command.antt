@@ -3,7 +3,7 @@
 use Rattle.std.specs.Prelude.{ℕ, ◌≤◌, true, false, List, [], ◌∷◌, unwrap_or, Result, Ok, Err, codes, slice_index_or, if◌then◌else◌}
 use Rattle.std.specs.Str.{bytes_eq}
 use Rattle.cvc_words.specs.declared.command.Command.{Command}
-use Rattle.cvc_words.specs.declared.command.Command.TheVariants.{Check, Serial, Gen}
+use Rattle.cvc_words.specs.declared.command.Command.TheVariants.{Check, Serial, Gen, Expect}
 use Rattle.cvc_words.specs.declared.command.Job.{Job}
 use Rattle.cvc_words.specs.declared.fault.WordFault.{WordFault}
 use Rattle.cvc_words.specs.declared.fault.WordFault.TheVariants.{NoCommand, UnknownCommand}
@@ -36,6 +36,9 @@ serial_takes = record { must_have = 3; top = true; workers = false; nets = true 
 abbrev pub gen_takes : Takes
 gen_takes = record { must_have = 2; top = false; workers = true; nets = false }
 
+abbrev pub expect_takes : Takes
+expect_takes = record { must_have = 4; top = true; workers = false; nets = false }
+
 -- ## What each command asks for
 
 -- the word at this place behind the command's name, from 0
@@ -55,13 +58,18 @@ gen_of words = do
   options ← options_of gen_takes later
   Ok (Gen seed size (workers_of options))
 
+-- the netlist, the models, the power file and the expected bounds
+abbrev pub expect_of : List (List ℕ) → Result Command WordFault
+expect_of words = given expect_takes words >>= λ o. Ok (Expect (word 0 words) (word 1 words) (word 2 words) (word 3 words) o.top)
+
 -- the words after the command's name
 unfoldable pub command_named : List ℕ → List (List ℕ) → Result Command WordFault
 command_named name words =
     if bytes_eq name (codes "check") then (given check_takes words >>= λ options. Ok (Check (job words options)))
     else (if bytes_eq name (codes "serial") then (given serial_takes words >>= λ options. Ok (Serial (job words options)))
     else (if bytes_eq name (codes "gen") then gen_of words
-    else Err UnknownCommand))
+    else (if bytes_eq name (codes "expect") then expect_of words
+    else Err UnknownCommand)))
 
 -- the command of the words, or their first fault
 abbrev pub command_of : List (List ℕ) → Result Command WordFault
@@ -79,3 +87,4 @@ abbrev pub IsWithin : Command → Type 0
 IsWithin (Check job) = AreWorkers job.workers
 IsWithin (Serial job) = AreWorkers job.workers
 IsWithin (Gen seed size workers) = AreStages size × AreWorkers workers
+IsWithin (Expect netlist models power expected top) = Unit {0}

@@ -22,5 +22,17 @@ pub enum Command {
     /// Check them on one thread; the number of workers means nothing.
     Serial(Job),
     /// Check the netlist that is generated from the seed, with `size` stages, from 1 to 200,000.
-    Gen { seed: u64, size: u32, workers: u32 },
+    Gen {
+        seed: u64,
+        size: u32,
+        workers: u32,
+    },
+    /// Compare the least family of the files with the bounds that are expected.
+    Expect {
+        netlist: Text,
+        models: Text,
+        power: Text,
+        expected: Text,
+        top: Option<Text>,
+    },
 }

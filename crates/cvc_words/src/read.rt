@@ -1,6 +1,6 @@
 //! The command of the words.
 ghost use Rattle.std.specs.Prelude.{◌≡◌, ◌≤◌, ◌<◌, IfOk, length, slice_index};
-ghost use Rattle.cvc_words.specs.Command.{IsWithin, command_named, command_of, gen_of, job, word};
+ghost use Rattle.cvc_words.specs.Command.{IsWithin, command_named, command_of, expect_of, gen_of, job, word};
 ghost use Rattle.cvc_words.specs.Options.{AreWorkers};
 ghost use Rattle.cvc_words.specs.Views.{Gives, IsLimited, options_view};
 
@@ -32,6 +32,13 @@ const GEN_TAKES: Takes = Takes {
     nets: false,
 };
 
+const EXPECT_TAKES: Takes = Takes {
+    must_have: 4,
+    top: true,
+    workers: false,
+    nets: false,
+};
+
 // How many workers settle a circuit where no word says it.
 const DEFAULT_WORKERS: u32 = 4;
 
@@ -46,6 +53,16 @@ fn file(alloc: Global, words: &[Text], place: usize) -> Result<Text, NoMemory>
     Text::of(alloc, words[place].bytes())
 }
 
+// The name of the top, if an option gives one.
+fn top(alloc: Global, options: Options) -> Result<Option<Text>, NoMemory>
+    ensures { IfOk result (λ name. name ≡ (options_view options.entry).top) }
+{
+    match options.top {
+        Some(name) => Ok(Some(Text::of(alloc, name)?)),
+        None => Ok(None),
+    }
+}
+
 // The job of three files.
 fn job(alloc: Global, words: &[Text], options: Options) -> Result<Job, NoMemory>
     requires files { 3 ≤ length words.now }
@@ -53,15 +70,11 @@ fn job(alloc: Global, words: &[Text], options: Options) -> Result<Job, NoMemory>
     ensures job { IfOk result (λ made. made ≡ job words.now (options_view options.entry)) }
     ensures limited { IfOk result (λ made. AreWorkers made.workers) }
 {
-    let top = match options.top {
-        Some(name) => Some(Text::of(alloc, name)?),
-        None => None,
-    };
     Ok(Job {
         netlist: file(alloc, words, 0)?,
         models: file(alloc, words, 1)?,
         power: file(alloc, words, 2)?,
-        top,
+        top: top(alloc, options)?,
         workers: options.workers.unwrap_or(DEFAULT_WORKERS),
         nets: options.nets,
     })
@@ -83,6 +96,20 @@ fn read_gen(words: &[Text]) -> Result<Command, WordFault>
     })
 }
 
+fn read_expect(alloc: Global, words: &[Text]) -> Result<Command, WordRefusal>
+    ensures command { Gives result (expect_of words.now) }
+    ensures within { IfOk result IsWithin }
+{
+    let options = read_given(EXPECT_TAKES, words)?;
+    Ok(Command::Expect {
+        netlist: file(alloc, words, 0)?,
+        models: file(alloc, words, 1)?,
+        power: file(alloc, words, 2)?,
+        expected: file(alloc, words, 3)?,
+        top: top(alloc, options)?,
+    })
+}
+
 // The command of this name, with the words after it.
 #[tactic(auto, unfolding(crate::specs::Command::command_named))]
 fn read_command(alloc: Global, name: &[u8], words: &[Text]) -> Result<Command, WordRefusal>
@@ -99,6 +126,9 @@ fn read_command(alloc: Global, name: &[u8], words: &[Text]) -> Result<Command, W
     }
     if name == b"gen".as_slice() {
         return Ok(read_gen(words)?);
+    }
+    if name == b"expect".as_slice() {
+        return read_expect(alloc, words);
     }
     Err(WordFault::UnknownCommand.into())
 }
