@@ -1,0 +1,5 @@
+pub mod Rows
+pub mod Misses
+pub mod Missed
+pub mod Text
+pub mod Examples
