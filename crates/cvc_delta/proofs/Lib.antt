@@ -1,0 +1,9 @@
+pub mod Marked
+pub mod Editing
+pub mod Lines
+pub mod Numbering
+pub mod Searching
+pub mod Rowing
+pub mod PowerFiles
+pub mod Widening
+pub mod Holding
