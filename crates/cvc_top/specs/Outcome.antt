@@ -5,14 +5,16 @@ use Rattle.cvc_io.specs.Files.{Files}
 use Rattle.cvc_run.specs.Due.{no_file}
 use Rattle.cvc_run.specs.Outcome.{job_run, survey_run, words_ending}
 use Rattle.cvc_run.specs.Run.{Run}
+use Rattle.cvc_top.specs.Expectations.{expect_files, expect_run}
 use Rattle.cvc_words.specs.declared.command.Command.{Command}
-use Rattle.cvc_words.specs.declared.command.Command.TheVariants.{Check, Serial, Gen}
+use Rattle.cvc_words.specs.declared.command.Command.TheVariants.{Check, Serial, Gen, Expect}
 use Rattle.cvc_words.specs.declared.fault.WordFault.{WordFault}
 
 abbrev pub command_run : Option Files → Command → Run
 command_run files (Check job) = job_run files job
 command_run files (Serial job) = job_run files job
 command_run files (Gen seed size workers) = survey_run seed size
+command_run files (Expect netlist models power expected top) = expect_run files (expect_files netlist models power expected top)
 
 abbrev pub refused_run : WordFault → Run
 refused_run fault = record { outcome = λ e. e ≡ words_ending fault; due = no_file; accepted = ⊥ }

@@ -1,5 +1,6 @@
 //! The commands of the program.
 ghost use Rattle.std.specs.Prelude.{◌≡◌, ◌≤◌, None};
+ghost use Rattle.cvc_cdl.specs.Builder.{named_top};
 ghost use Rattle.cvc_run.specs.Due.{no_file};
 ghost use Rattle.cvc_run.specs.Outside.{taken};
 ghost use Rattle.cvc_run.specs.Run.{Answers};
@@ -7,7 +8,8 @@ ghost use Rattle.cvc_run.specs.Shelves.{Leaves};
 ghost use Rattle.cvc_top.specs.Outcome.{command_run, words_run};
 ghost use Rattle.cvc_words.specs.Command.{IsWithin, command_of};
 
-use cvc_base::Texts;
+use crate::expect::expect;
+use cvc_base::{Text, Texts};
 use cvc_crew::NoGate;
 use cvc_io::{Shelf, Sink};
 use cvc_run::{Status, check, check_serial, survey, tell};
@@ -15,6 +17,16 @@ use cvc_words::{Command, WordRefusal, read_words};
 use std::alloc::Global;
 use std::sync::Wait;
 use std::thread::Threads;
+
+// A name, if there is one.
+fn name_of(name: &Option<Text>) -> Option<&Text>
+    ensures { named_top result ≡ name.now }
+{
+    match name {
+        Some(text) => Some(text),
+        None => None,
+    }
+}
 
 // Does what the words ask for.
 fn run_command<R: Threads + Wait + Sync, S: Shelf, K: Sink>(
@@ -40,6 +52,22 @@ fn run_command<R: Threads + Wait + Sync, S: Shelf, K: Sink>(
             size,
             workers,
         } => survey(rt, alloc, *seed, *size, *workers, sink, &NoGate),
+        Command::Expect {
+            netlist,
+            models,
+            power,
+            expected,
+            top,
+        } => expect(
+            alloc,
+            netlist,
+            models,
+            power,
+            expected,
+            name_of(top),
+            shelf,
+            sink,
+        ),
     }
 }
 
