@@ -1,5 +1,10 @@
-//! Checks examples: for each folder that an argument names, it tells whether the report of its files, with their nets, is the one that is stored
-//! beside them.
+//! Compares stored outputs with what the program writes. Each argument is `FOLDER/FILE`, where `:OPTION` may follow: FILE keeps what a command writes
+//! over the other files of FOLDER, and its name says which command.
+//!
+//! | FILE | the command |
+//! |---|---|
+//! | `report`, `report.MODE` | `check netlist.cdl models power nets`, with `power.MODE` for a mode |
+//! | `told.expected` | `expect netlist.cdl models power expected` |
 #![tactic(auto)]
 
 use cvc_base::{NoMemory, Text, Texts};
@@ -13,56 +18,115 @@ use std::rt::Files;
 use std::sync::Wait;
 use std::thread::Threads;
 
-// Room for every report.
+// Room for every output.
 const ROOM: u16 = 16_384;
 
-// The name of a file of a folder.
-fn name_in(alloc: Global, folder: &str, file: &str) -> Result<Text, NoMemory> {
-    let name = format!(in alloc; "{folder}/{file}")?;
-    Text::of(alloc, name.as_bytes())
+// A stored output.
+#[derive(Drop)]
+struct Stored<'a> {
+    folder: &'a str,
+    file: &'a str,
+    option: Option<&'a str>,
 }
 
-// The words that check the files of a folder.
-fn words_of(alloc: Global, folder: &str) -> Result<Texts, NoMemory> {
-    let mut words = Texts::new(alloc);
-    words.push(Text::of(alloc, b"check")?)?;
-    for file in ["netlist.cdl", "models", "power"] {
-        words.push(name_in(alloc, folder, file)?)?;
+impl<'a> Stored<'a> {
+    // The stored output that an argument names.
+    fn of(argument: &'a str) -> Option<Stored<'a>> {
+        let (place, option) = match argument.split_once(':') {
+            Some((place, option)) => (place, Some(option)),
+            None => (argument, None),
+        };
+        let (folder, file) = place.split_once('/')?;
+        Some(Stored {
+            folder,
+            file,
+            option,
+        })
     }
-    words.push(Text::of(alloc, b"nets")?)?;
-    Ok(words)
+
+    // The name of a file of the folder.
+    fn name_of(&self, alloc: Global, file: &str) -> Result<Text, NoMemory> {
+        let folder = self.folder;
+        let name = format!(in alloc; "{folder}/{file}")?;
+        Text::of(alloc, name.as_bytes())
+    }
+
+    // The words of a command over the netlist, the models and further files of the folder.
+    fn words_of(
+        &self,
+        alloc: Global,
+        command: &str,
+        files: &[&str],
+        nets: bool,
+    ) -> Result<Texts, NoMemory> {
+        let mut words = Texts::new(alloc);
+        words.push(Text::of(alloc, command.as_bytes())?)?;
+        words.push(self.name_of(alloc, "netlist.cdl")?)?;
+        words.push(self.name_of(alloc, "models")?)?;
+        for file in files {
+            words.push(self.name_of(alloc, file)?)?;
+        }
+        if nets {
+            words.push(Text::of(alloc, b"nets")?)?;
+        }
+        if let Some(option) = self.option {
+            words.push(Text::of(alloc, option.as_bytes())?)?;
+        }
+        Ok(words)
+    }
+
+    // The words of the command that writes the output.
+    fn words(&self, alloc: Global) -> Result<Texts, NoMemory> {
+        if let Some(mode) = self.file.strip_prefix("report") {
+            let power = format!(in alloc; "power{mode}")?;
+            return self.words_of(alloc, "check", &[power.as_str()], true);
+        }
+        self.words_of(alloc, "expect", &["power", "expected"], false)
+    }
+
+    // Whether the command writes what is stored.
+    fn is_met<R: Files + Threads + Wait + Sync>(
+        &self,
+        rt: &R,
+        alloc: Global,
+    ) -> Result<bool, LoadFault> {
+        let words = self.words(alloc)?;
+        let mut shelf = FileShelf::new(rt);
+        let mut sink = MemSink::new(alloc, usize::from(ROOM))?;
+        let status = top(rt, alloc, &words, &mut shelf, &mut sink);
+        if status != Status::Clean && status != Status::Errors {
+            return Ok(false);
+        }
+        let name = self.name_of(alloc, self.file)?;
+        let stored = load_file(alloc, &name, u64::from(ROOM), &mut shelf)?;
+        Ok(stored.bytes() == sink.bytes())
+    }
 }
 
-// Whether the files of a folder have the report that is stored beside them.
-fn is_as_stored<R: Files + Threads + Wait + Sync>(
+// What is said of an argument.
+fn verdict_of<R: Files + Threads + Wait + Sync>(
     rt: &R,
     alloc: Global,
-    folder: &str,
-) -> Result<bool, LoadFault> {
-    let words = words_of(alloc, folder)?;
-    let mut shelf = FileShelf::new(rt);
-    let mut sink = MemSink::new(alloc, usize::from(ROOM))?;
-    let status = top(rt, alloc, &words, &mut shelf, &mut sink);
-    if status != Status::Clean && status != Status::Errors {
-        return Ok(false);
+    argument: &str,
+) -> &'static str {
+    let Some(stored) = Stored::of(argument) else {
+        return "no stored output";
+    };
+    match stored.is_met(rt, alloc) {
+        Ok(true) => "as stored",
+        Ok(false) => "not as stored",
+        Err(_) => "not read",
     }
-    let report = name_in(alloc, folder, "report")?;
-    let stored = load_file(alloc, &report, u64::from(ROOM), &mut shelf)?;
-    Ok(stored.bytes() == sink.bytes())
 }
 
 fn main(rt: HostRuntime) -> ExitCode {
-    let Ok(mut folders) = env::args(&rt) else {
+    let Ok(mut arguments) = env::args(&rt) else {
         return ExitCode::FAILURE;
     };
-    let _program = folders.next();
-    for folder in folders {
-        let verdict = match is_as_stored(&rt, rt.alloc(), &folder) {
-            Ok(true) => "as stored",
-            Ok(false) => "not as stored",
-            Err(_) => "not read",
-        };
-        if println!(rt; "{folder}: {verdict}").is_err() {
+    let _program = arguments.next();
+    for argument in arguments {
+        let verdict = verdict_of(&rt, rt.alloc(), &argument);
+        if println!(rt; "{argument}: {verdict}").is_err() {
             return ExitCode::FAILURE;
         }
     }
