@@ -3,6 +3,7 @@
 Rows of the table, with `#` for comments:
   x CELL LETTER PLACE.. [sub=PLACE] [drop=PLACE]..   instances of CELL, which is no cell of the file, become cards LETTER with the model
                                                      CELL; PLACE counts the instance's nets from 1; `sub` becomes `$SUB=`, `drop` goes
+  pins CELL PORT..                                   the ports of CELL in the order of these places, for instances that connect by `$PINS`
   bulk LETTER MODEL                                  cards R, C or L of MODEL have a bulk as their third net, which becomes `$SUB=`"""
 
 import argparse
@@ -25,6 +26,7 @@ class Table:
     """The rows by cell and by letter and model."""
 
     instances: Dict[str, "InstanceRow"] = field(default_factory=dict)
+    pins: Dict[str, List[str]] = field(default_factory=dict)
     bulks: Set[Tuple[str, str]] = field(default_factory=set)
 
 
@@ -95,9 +97,13 @@ def read_table(path: str) -> Table:
         if tokens[0] == "bulk" and len(tokens) == 3 and tokens[1] in ("R", "C", "L"):
             table.bulks.add((tokens[1], tokens[2]))
             continue
+        if tokens[0] == "pins" and len(tokens) > 2 and tokens[1] not in table.pins and len(set(tokens[2:])) == len(tokens[2:]):
+            table.pins[tokens[1]] = tokens[2:]
+            continue
         row = instance_row(tokens)
         if row is None or tokens[1] in table.instances:
-            raise KitError(f"{path}:{line}: a row is `x CELL LETTER PLACE.. [sub=PLACE] [drop=PLACE]..`, a cell once, or `bulk R|C|L MODEL`")
+            forms = "`x CELL LETTER PLACE.. [sub=PLACE] [drop=PLACE]..`, `pins CELL PORT..`, each once for a cell, or `bulk R|C|L MODEL`"
+            raise KitError(f"{path}:{line}: a row is {forms}")
         table.instances[tokens[1]] = row
     return table
 
@@ -135,7 +141,7 @@ def changed_cards(netlist: Netlist, table: Table) -> Dict[int, str]:
             if text is not None:
                 cards[item.line] = text
     refuse_faults(netlist.path, sorted(faults, key=lambda fault: fault.line))
-    for key in [*table.instances, *table.bulks]:
+    for key in [*table.instances, *(("pins", cell) for cell in table.pins), *table.bulks]:
         if key not in used:
             warn(f"the table's row of {key if isinstance(key, str) else ' '.join(key)} changes no card")
     return cards
@@ -147,7 +153,9 @@ def new_card(netlist: Netlist, table: Table, level: Cell, item: object, taken: S
         used.add(item.cell)
         if item.cell in netlist.cells:
             raise Inexact(f"`{shown(item.cell)}` is a cell of the file")
-        return device_of(item, table.instances[item.cell], taken)
+        if item.by_name is not None and item.cell in table.pins:
+            used.add(("pins", item.cell))
+        return device_of(item, table.instances[item.cell], table.pins.get(item.cell), taken)
     if isinstance(item, Device):
         model = next((model for letter, model in table.bulks if letter == item.letter and model in item.extra), None)
         if model is not None and not item.named:
@@ -158,18 +166,31 @@ def new_card(netlist: Netlist, table: Table, level: Cell, item: object, taken: S
     return None
 
 
-def device_of(item: Instance, row: InstanceRow, taken: Set[str]) -> str:
+def device_of(item: Instance, row: InstanceRow, ports: Optional[List[str]], taken: Set[str]) -> str:
     """The device card in place of an instance. Its name is the old one behind the letter."""
     name = row.letter + item.name
-    if item.by_name is not None:
-        raise Inexact("`$PINS` connects by name, and the table has places")
-    if len(item.nets) != row.count():
-        raise Inexact(f"{counted(len(item.nets), 'net')}, and the table has {counted(row.count(), 'place')}")
+    nets = item.nets if item.by_name is None else nets_by_name(item, ports)
+    if len(nets) != row.count():
+        raise Inexact(f"{counted(len(nets), 'net')}, and the table has {counted(row.count(), 'place')}")
     if name in taken:
         raise Inexact(f"there is a card `{shown(name)}` already")
     taken.add(name)
-    sub = [("SUB", item.nets[row.sub - 1])] if row.sub is not None else []
-    return card_text(name, [item.nets[place - 1] for place in row.places], item.cell, sub, item.pairs)
+    sub = [("SUB", nets[row.sub - 1])] if row.sub is not None else []
+    return card_text(name, [nets[place - 1] for place in row.places], item.cell, sub, item.pairs)
+
+
+def nets_by_name(item: Instance, ports: Optional[List[str]]) -> List[str]:
+    """The nets of an instance that connects by `$PINS`, in the order of the ports of its cell. Each port has to be connected."""
+    if ports is None:
+        raise Inexact(f"`$PINS` connects by name: give the table a row `pins {shown(item.cell)} PORT..`")
+    connected = dict(item.by_name or [])
+    for port in connected:
+        if port not in ports:
+            raise Inexact(f"the table's pins of `{shown(item.cell)}` have no `{shown(port)}`")
+    for port in ports:
+        if port not in connected:
+            raise Inexact(f"the port `{shown(port)}` is not connected, and a device card needs its net")
+    return [connected[port] for port in ports]
 
 
 def without_bulk(item: Device, model: str) -> Optional[str]:

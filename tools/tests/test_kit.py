@@ -161,11 +161,20 @@ class Prepare(Kit):
         self.assertEqual(told, want)
         self.assertIn("6 R3 a b 1000", (self.folder / "m").read_text())
 
+    def test_pins(self):
+        netlist = "XM1 / nmos_rf $PINS G=g D=d B=b S=s\nXM2 d g s b nmos_rf w=1u\n"
+        row = "x nmos_rf M 1 2 3 4\n"
+        told = self.kit("prepare", self.file("n", netlist), "--table", self.file("t", row + "pins nmos_rf D G S B\n"))
+        self.assertEqual(told, "MXM1 d g s b $[nmos_rf]\nMXM2 d g s b $[nmos_rf] $w=1u\n")
+        for rows, part in ((row, "pins nmos_rf PORT.."), (row + "pins nmos_rf D G S\n", "have no `B`"), (row + "pins nmos_rf D G S B E\n", "`E` is not connected")):
+            self.assertIn(part, self.kit("prepare", "n", "--table", self.file("t", rows), status=2))
+        self.assertIn("pins zz changes no card", self.kit("prepare", "n", "--table", self.file("t", row + "pins nmos_rf D G S B\npins zz a\n")))
+
     def test_refusals(self):
         table = self.file("t", self.TABLE)
         for netlist in ("*.JOIN a b\n", "X1 a b c nmos_rf\n", "R3 a b 0 rdiff\n", "X1 a b c d nmos_rf\nMX1 a b c d n\n", "V1 a 0 1\n", "R1 a b 'x'\n"):
             self.assertIn("n:", self.kit("prepare", self.file("n", netlist), "--table", table, status=2))
-        for row in ("x c M 1 2 3\n", "x c R 1 3\n", "bulk M n\n", "y\n"):
+        for row in ("pins c\n", "pins c a a\n", "x c M 1 2 3\n", "x c R 1 3\n", "bulk M n\n", "y\n"):
             self.assertIn("t:1:", self.kit("prepare", self.file("n", ""), "--table", self.file("t", row), status=2))
 
 
