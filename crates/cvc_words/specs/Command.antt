@@ -3,7 +3,7 @@
 use Rattle.std.specs.Prelude.{ℕ, ◌≤◌, true, false, List, [], ◌∷◌, unwrap_or, Result, Ok, Err, codes, slice_index_or, if◌then◌else◌}
 use Rattle.std.specs.Str.{bytes_eq}
 use Rattle.cvc_words.specs.declared.command.Command.{Command}
-use Rattle.cvc_words.specs.declared.command.Command.TheVariants.{Check, Serial, Gen, Expect}
+use Rattle.cvc_words.specs.declared.command.Command.TheVariants.{Check, Serial, Gen, Expect, Prove, Verify, Modes, Session}
 use Rattle.cvc_words.specs.declared.command.Job.{Job}
 use Rattle.cvc_words.specs.declared.fault.WordFault.{WordFault}
 use Rattle.cvc_words.specs.declared.fault.WordFault.TheVariants.{NoCommand, UnknownCommand}
@@ -39,6 +39,18 @@ gen_takes = record { must_have = 2; top = false; workers = true; nets = false }
 abbrev pub expect_takes : Takes
 expect_takes = record { must_have = 4; top = true; workers = false; nets = false }
 
+abbrev pub prove_takes : Takes
+prove_takes = record { must_have = 3; top = true; workers = false; nets = false }
+
+abbrev pub verify_takes : Takes
+verify_takes = record { must_have = 5; top = true; workers = false; nets = true }
+
+abbrev pub modes_takes : Takes
+modes_takes = record { must_have = 3; top = true; workers = false; nets = false }
+
+abbrev pub session_takes : Takes
+session_takes = record { must_have = 4; top = true; workers = false; nets = true }
+
 -- ## What each command asks for
 
 -- the word at this place behind the command's name, from 0
@@ -62,6 +74,22 @@ gen_of words = do
 abbrev pub expect_of : List (List ℕ) → Result Command WordFault
 expect_of words = given expect_takes words >>= λ o. Ok (Expect (word 0 words) (word 1 words) (word 2 words) (word 3 words) o.top)
 
+-- the netlist, the models and the power file
+abbrev pub prove_of : List (List ℕ) → Result Command WordFault
+prove_of words = given prove_takes words >>= λ o. Ok (Prove (word 0 words) (word 1 words) (word 2 words) o.top)
+
+-- the netlist, the models, the power file, the log and the report
+abbrev pub verify_of : List (List ℕ) → Result Command WordFault
+verify_of words = given verify_takes words >>= λ o. Ok (Verify (word 0 words) (word 1 words) (word 2 words) (word 3 words) (word 4 words) o.top o.nets)
+
+-- the netlist, the models and the list of the modes
+abbrev pub modes_of : List (List ℕ) → Result Command WordFault
+modes_of words = given modes_takes words >>= λ o. Ok (Modes (word 0 words) (word 1 words) (word 2 words) o.top)
+
+-- the netlist, the models, the power file and the edits
+abbrev pub session_of : List (List ℕ) → Result Command WordFault
+session_of words = given session_takes words >>= λ o. Ok (Session (word 0 words) (word 1 words) (word 2 words) (word 3 words) o.top o.nets)
+
 -- the words after the command's name
 unfoldable pub command_named : List ℕ → List (List ℕ) → Result Command WordFault
 command_named name words =
@@ -69,7 +97,11 @@ command_named name words =
     else (if bytes_eq name (codes "serial") then (given serial_takes words >>= λ options. Ok (Serial (job words options)))
     else (if bytes_eq name (codes "gen") then gen_of words
     else (if bytes_eq name (codes "expect") then expect_of words
-    else Err UnknownCommand)))
+    else (if bytes_eq name (codes "prove") then prove_of words
+    else (if bytes_eq name (codes "verify") then verify_of words
+    else (if bytes_eq name (codes "modes") then modes_of words
+    else (if bytes_eq name (codes "session") then session_of words
+    else Err UnknownCommand)))))))
 
 -- the command of the words, or their first fault
 abbrev pub command_of : List (List ℕ) → Result Command WordFault
@@ -88,3 +120,7 @@ IsWithin (Check job) = AreWorkers job.workers
 IsWithin (Serial job) = AreWorkers job.workers
 IsWithin (Gen seed size workers) = AreStages size × AreWorkers workers
 IsWithin (Expect netlist models power expected top) = Unit {0}
+IsWithin (Prove netlist models power top) = Unit {0}
+IsWithin (Verify netlist models power log report top nets) = Unit {0}
+IsWithin (Modes netlist models list top) = Unit {0}
+IsWithin (Session netlist models power edits top nets) = Unit {0}

@@ -35,4 +35,37 @@ pub enum Command {
         expected: Text,
         top: Option<Text>,
     },
+    /// Write the derivation log of the files.
+    Prove {
+        netlist: Text,
+        models: Text,
+        power: Text,
+        top: Option<Text>,
+    },
+    /// Say whether the log justifies the report, which lists the nets where `nets` is given.
+    Verify {
+        netlist: Text,
+        models: Text,
+        power: Text,
+        log: Text,
+        report: Text,
+        top: Option<Text>,
+        nets: bool,
+    },
+    /// Check the design under each power file of the list.
+    Modes {
+        netlist: Text,
+        models: Text,
+        list: Text,
+        top: Option<Text>,
+    },
+    /// Do the edits of the supplies in order, and check the design after them.
+    Session {
+        netlist: Text,
+        models: Text,
+        power: Text,
+        edits: Text,
+        top: Option<Text>,
+        nets: bool,
+    },
 }

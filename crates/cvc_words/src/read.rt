@@ -1,6 +1,18 @@
 //! The command of the words.
 ghost use Rattle.std.specs.Prelude.{◌≡◌, ◌≤◌, ◌<◌, IfOk, length, slice_index};
-ghost use Rattle.cvc_words.specs.Command.{IsWithin, command_named, command_of, expect_of, gen_of, job, word};
+ghost use Rattle.cvc_words.specs.Command.{
+  IsWithin,
+  command_named,
+  command_of,
+  expect_of,
+  gen_of,
+  job,
+  modes_of,
+  prove_of,
+  session_of,
+  verify_of,
+  word,
+};
 ghost use Rattle.cvc_words.specs.Options.{AreWorkers};
 ghost use Rattle.cvc_words.specs.Views.{Gives, IsLimited, options_view};
 
@@ -37,6 +49,34 @@ const EXPECT_TAKES: Takes = Takes {
     top: true,
     workers: false,
     nets: false,
+};
+
+const PROVE_TAKES: Takes = Takes {
+    must_have: 3,
+    top: true,
+    workers: false,
+    nets: false,
+};
+
+const VERIFY_TAKES: Takes = Takes {
+    must_have: 5,
+    top: true,
+    workers: false,
+    nets: true,
+};
+
+const MODES_TAKES: Takes = Takes {
+    must_have: 3,
+    top: true,
+    workers: false,
+    nets: false,
+};
+
+const SESSION_TAKES: Takes = Takes {
+    must_have: 4,
+    top: true,
+    workers: false,
+    nets: true,
 };
 
 // How many workers settle a circuit where no word says it.
@@ -110,6 +150,63 @@ fn read_expect(alloc: Global, words: &[Text]) -> Result<Command, WordRefusal>
     })
 }
 
+fn read_prove(alloc: Global, words: &[Text]) -> Result<Command, WordRefusal>
+    ensures command { Gives result (prove_of words.now) }
+    ensures within { IfOk result IsWithin }
+{
+    let options = read_given(PROVE_TAKES, words)?;
+    Ok(Command::Prove {
+        netlist: file(alloc, words, 0)?,
+        models: file(alloc, words, 1)?,
+        power: file(alloc, words, 2)?,
+        top: top(alloc, options)?,
+    })
+}
+
+fn read_verify(alloc: Global, words: &[Text]) -> Result<Command, WordRefusal>
+    ensures command { Gives result (verify_of words.now) }
+    ensures within { IfOk result IsWithin }
+{
+    let options = read_given(VERIFY_TAKES, words)?;
+    Ok(Command::Verify {
+        netlist: file(alloc, words, 0)?,
+        models: file(alloc, words, 1)?,
+        power: file(alloc, words, 2)?,
+        log: file(alloc, words, 3)?,
+        report: file(alloc, words, 4)?,
+        top: top(alloc, options)?,
+        nets: options.nets,
+    })
+}
+
+fn read_modes(alloc: Global, words: &[Text]) -> Result<Command, WordRefusal>
+    ensures command { Gives result (modes_of words.now) }
+    ensures within { IfOk result IsWithin }
+{
+    let options = read_given(MODES_TAKES, words)?;
+    Ok(Command::Modes {
+        netlist: file(alloc, words, 0)?,
+        models: file(alloc, words, 1)?,
+        list: file(alloc, words, 2)?,
+        top: top(alloc, options)?,
+    })
+}
+
+fn read_session(alloc: Global, words: &[Text]) -> Result<Command, WordRefusal>
+    ensures command { Gives result (session_of words.now) }
+    ensures within { IfOk result IsWithin }
+{
+    let options = read_given(SESSION_TAKES, words)?;
+    Ok(Command::Session {
+        netlist: file(alloc, words, 0)?,
+        models: file(alloc, words, 1)?,
+        power: file(alloc, words, 2)?,
+        edits: file(alloc, words, 3)?,
+        top: top(alloc, options)?,
+        nets: options.nets,
+    })
+}
+
 // The command of this name, with the words after it.
 #[tactic(auto, unfolding(crate::specs::Command::command_named))]
 fn read_command(alloc: Global, name: &[u8], words: &[Text]) -> Result<Command, WordRefusal>
@@ -129,6 +226,18 @@ fn read_command(alloc: Global, name: &[u8], words: &[Text]) -> Result<Command, W
     }
     if name == b"expect".as_slice() {
         return read_expect(alloc, words);
+    }
+    if name == b"prove".as_slice() {
+        return read_prove(alloc, words);
+    }
+    if name == b"verify".as_slice() {
+        return read_verify(alloc, words);
+    }
+    if name == b"modes".as_slice() {
+        return read_modes(alloc, words);
+    }
+    if name == b"session".as_slice() {
+        return read_session(alloc, words);
     }
     Err(WordFault::UnknownCommand.into())
 }
