@@ -1,3 +1,5 @@
 pub mod Replays
 pub mod Cuts
 pub mod Matches
+pub mod Numbers
+pub mod RoundTrip

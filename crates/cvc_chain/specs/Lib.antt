@@ -5,3 +5,4 @@ pub mod Differing
 pub mod Matching
 pub mod Verdict
 pub mod Examples
+pub mod Laws

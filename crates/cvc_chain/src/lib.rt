@@ -1,6 +1,7 @@
 //! Certificates: a derivation log of a circuit, its text, and the verdict on a log and a report by one who trusts neither.
 #![tactic(auto)]
 
+pub mod laws;
 mod logs;
 mod matching;
 mod number;
