@@ -1,7 +1,7 @@
 -- What edits do to rows that stand at the lines of their places, no two of which have one name.
 use Rattle.std.proofs.Common.{◌≡◌, ℕ, zero, suc, ◌+◌, ◌<◌, ◌≤◌, ◌||◌, not, Bool, true, false, cond, List, [], ◌∷◌, ◌++◌, length, map, take, drop, get_or, All, Option, Some, None, Result, Ok, Err, refl, sym, ap, subst, ◌∙◌, arith, length-append}
 use Rattle.std.specs.Prelude.{ℤ, pos, ◌≤ℤ◌, ◌^◌, slice_set, if◌then◌else◌}
-use Rattle.std.specs.Bool.{OnTrue}
+use Rattle.std.specs.Bool.{OnFalse, OnTrue}
 use Rattle.std.specs.List.{filter, list_any, remove}
 use Rattle.std.specs.Str.{bytes_eq}
 use Rattle.std.specs.Cmp.Lexicographic.{bytes_decides}
@@ -13,7 +13,7 @@ use Rattle.cvc_names.specs.Names.{has_twice, is_among, name_at, place_of, with_n
 use Rattle.cvc_names.proofs.Repeats.{has_twice-push}
 use Rattle.cvc_power.specs.declared.row.PowerRow.{PowerRow}
 use Rattle.cvc_power.specs.Power.{IsOrdered, name_of, row_with}
-use Rattle.cvc_delta.specs.Edits.{AreApart, has_other_name, names_of, numbered, numbered_from, set_at, set_row, unset_row}
+use Rattle.cvc_delta.specs.Edits.{AreApart, has_other_name, has_row, names_of, numbered, numbered_from, set_at, set_row, unset_row}
 use Rattle.cvc_delta.specs.Rows.{ArePlacedFrom, AreRows, AreWiderRows, IsWiderRow}
 use Rattle.cvc_delta.proofs.Editing.{name_in_place, names_numbered, names_set}
 use Rattle.cvc_delta.proofs.Numbering.{length_numbered}
@@ -76,6 +76,16 @@ unfolding numbered_from
 ordered_numbered first [] ordered = All-nil IsOrdered
 ordered_numbered first (row ∷ rows) ordered =
     All-cons IsOrdered (record row { line = first }) (numbered_from (suc first) rows) (All-head IsOrdered row rows ordered) (ordered_numbered (suc first) rows (All-tail IsOrdered row rows ordered))
+
+all_placed : (first : ℕ) (rows : List PowerRow) → ArePlacedFrom first rows → numbered_from first rows ≡ rows
+unfolding numbered_from
+all_placed first [] placed = refl
+all_placed first (row ∷ rows) placed = λ i. record row { line = sym placed.0 i } ∷ all_placed (suc first) rows placed.1 i
+
+-- an unset of a name that no row has leaves the rows as they are
+pub unset_none : (rows next : List PowerRow) (name : List ℕ) (there : Bool) → AreRows rows → there ≡ has_row rows name → there ≡ false → OnFalse there (next ≡ rows) → next ≡ unset_row rows name
+unset_none rows next name false are is e same = same ∙ sym (ap numbered (none_named name rows (sym is)) ∙ all_placed 1 rows are.placed)
+unset_none rows next name true are is e same = cc
 
 still_none : (text : List ℕ) (test : PowerRow → Bool) (rows : List PowerRow) → list_any (bytes_eq text) (names_of rows) ≡ false → list_any (bytes_eq text) (names_of (filter test rows)) ≡ false
 still_none text test [] none = refl

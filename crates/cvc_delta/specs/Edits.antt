@@ -1,6 +1,6 @@
 -- Edits of declared rows. The k-th row stands at line k. A set gives the row of a name its bounds, in its place, or puts a new row last; an unset takes the
 -- row of a name away, and later rows move up. No two rows have one name, and an edit keeps it so.
-use Rattle.std.specs.Prelude.{◌≡◌, false, ℕ, suc, ◌+◌, ℤ, Bool, not, List, [], ◌∷◌, ◌++◌, length, map, Option, Some, None, slice_set}
+use Rattle.std.specs.Prelude.{◌≡◌, false, ℕ, suc, ◌+◌, ℤ, ◌≤ℤ◌, Bool, not, List, [], ◌∷◌, ◌++◌, length, map, Option, Some, None, slice_set}
 use Rattle.std.specs.List.{filter}
 use Rattle.std.specs.Str.{bytes_eq}
 use Rattle.cvc_names.specs.Names.{has_twice, is_among, place_of}
@@ -41,6 +41,12 @@ has_other_name name row = not (bytes_eq name row.name)
 
 abbrev pub unset_row : List PowerRow → List ℕ → List PowerRow
 unset_row rows name = numbered (filter (has_other_name name) rows)
+
+-- a set's bounds are in order
+abbrev pub IsOrderedEdit : Edit → Type 0
+IsOrderedEdit (Set name low high) = low ≤ℤ high
+IsOrderedEdit (Unset name) = Unit {0}
+IsOrderedEdit Recheck = Unit {0}
 
 -- the rows behind an edit
 abbrev pub after : List PowerRow → Edit → List PowerRow

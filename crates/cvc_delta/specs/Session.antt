@@ -1,10 +1,11 @@
 -- Sessions: a design, the declared rows, and the result of the last recheck, if it is kept.
-use Rattle.std.specs.Prelude.{◌≡◌, List, Option, None, Result, Ok, Err, IsSomeAnd}
+use Rattle.std.specs.Prelude.{◌≡◌, List, Option, None, Result, Ok, Err, IsSomeAnd, length, map}
 use Rattle.cvc_base.specs.declared.fault.Refusal.{Refusal}
 use Rattle.cvc_bind.specs.Bound.{circuit_of}
 use Rattle.cvc_flat.specs.Flat.{FlatList}
 use Rattle.cvc_judge.specs.declared.judged.Judged.{Judged}
 use Rattle.cvc_judge.specs.Judged.{IsJudged}
+use Rattle.cvc_law.specs.Bound.{IsBound}
 use Rattle.cvc_model.specs.declared.row.ModelRow.{ModelRow}
 use Rattle.cvc_power.specs.declared.row.PowerRow.{PowerRow}
 use Rattle.cvc_delta.specs.declared.fault.EditRefusal.{EditRefusal}
@@ -19,6 +20,7 @@ pub record SessionView : Type 0 where
 -- the result of a check of the rows: their circuit, its least family and its findings
 pub record IsCheckOf (f : FlatList) (models : List ModelRow) (rows : List PowerRow) (j : Judged) : Type 0 where
   pub circuit : circuit_of f models rows ≡ Ok j.circuit
+  pub bound : IsBound (length f.nets) (map (λ d. d.pins) f.devices) j.circuit
   pub judged : IsJudged j
 
 -- a call, and what it answered

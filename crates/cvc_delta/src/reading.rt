@@ -1,10 +1,10 @@
 //! Whole edits files.
-ghost use Rattle.std.specs.Prelude.{◌≡◌, ◌≤◌, List, IfOk, OnOk, length};
+ghost use Rattle.std.specs.Prelude.{◌≡◌, ◌≤◌, List, All, IfOk, OnOk, length};
 ghost use Rattle.cvc_lex.specs.Bytes.{file_limit};
 ghost use Rattle.cvc_power.specs.declared.row.PowerRow.{PowerRow};
 ghost use Rattle.cvc_rows.specs.Refusing.{Answers};
 ghost use Rattle.cvc_rows.specs.Tokens.{texts_of};
-ghost use Rattle.cvc_delta.specs.Edits.{after, after_all};
+ghost use Rattle.cvc_delta.specs.Edits.{IsOrderedEdit, after, after_all};
 ghost use Rattle.cvc_delta.specs.Reading.{AreLeft, edit_of, edits_of, if_there, recheck_of, set_of, unset_of};
 
 use crate::left::NameSet;
@@ -18,7 +18,8 @@ const BAD_ROW: Refused<EditsCause> = Refused::At(EditsCause::Text(Cause::BadRow)
 
 // The edit of a row that begins with `set`, by its further tokens.
 fn read_set(alloc: Global, tokens: &[Token]) -> Result<Edit, Refused<EditsCause>>
-    ensures { Answers result (set_of (texts_of tokens.now)) }
+    ensures edit { Answers result (set_of (texts_of tokens.now)) }
+    ensures ordered { IfOk result IsOrderedEdit }
 {
     let [name, form @ ..] = tokens else {
         return Err(BAD_ROW);
@@ -35,7 +36,8 @@ fn read_set(alloc: Global, tokens: &[Token]) -> Result<Edit, Refused<EditsCause>
 
 // The same of one that begins with `unset`.
 fn read_unset(alloc: Global, tokens: &[Token]) -> Result<Edit, Refused<EditsCause>>
-    ensures { Answers result (unset_of (texts_of tokens.now)) }
+    ensures edit { Answers result (unset_of (texts_of tokens.now)) }
+    ensures ordered { IfOk result IsOrderedEdit }
 {
     let [name] = tokens else {
         return Err(BAD_ROW);
@@ -47,7 +49,8 @@ fn read_unset(alloc: Global, tokens: &[Token]) -> Result<Edit, Refused<EditsCaus
 
 // The same of one that begins with `recheck`.
 fn read_recheck(tokens: &[Token]) -> Result<Edit, Refused<EditsCause>>
-    ensures { Answers result (recheck_of (texts_of tokens.now)) }
+    ensures edit { Answers result (recheck_of (texts_of tokens.now)) }
+    ensures ordered { IfOk result IsOrderedEdit }
 {
     match tokens {
         [] => Ok(Edit::Recheck),
@@ -57,7 +60,8 @@ fn read_recheck(tokens: &[Token]) -> Result<Edit, Refused<EditsCause>>
 
 // The edit of a row with these tokens, by itself.
 fn read_edit(alloc: Global, tokens: &[Token]) -> Result<Edit, Refused<EditsCause>>
-    ensures { Answers result (edit_of (texts_of tokens.now)) }
+    ensures edit { Answers result (edit_of (texts_of tokens.now)) }
+    ensures ordered { IfOk result IsOrderedEdit }
 {
     let [first, behind @ ..] = tokens else {
         return Err(BAD_ROW);
@@ -116,7 +120,7 @@ struct EditsJudge<'a> {
 
 impl<'a> Judge for EditsJudge<'a> {
     ghost use Rattle.std.specs.Prelude.{◌≡◌};
-    ghost use Rattle.cvc_delta.specs.Edits.{after_all};
+    ghost use Rattle.cvc_delta.specs.Edits.{IsOrderedEdit, after_all};
     ghost use Rattle.cvc_delta.specs.Reading.{AreLeft, told, verdict};
 
     type Row = Edit;
@@ -129,7 +133,7 @@ impl<'a> Judge for EditsJudge<'a> {
 
     ghost knows = { λ judge edits. AreLeft judge.left (after_all judge.power.now edits) };
 
-    ghost fine = { λ _. Unit {0} };
+    ghost fine = { IsOrderedEdit };
 
     fn judge(&mut self, alloc: Global, line: &Line) -> Result<Edit, Refused<EditsCause>> {
         let edit = read_edit(alloc, line.tokens.as_slice())?;
@@ -149,6 +153,8 @@ impl<'a> Judge for EditsJudge<'a> {
 /// rows.
 pub fn read_edits(alloc: Global, bytes: &[u8], power: &Power) -> Result<Edits, EditsRefusal>
     ensures edits { Answers result (edits_of power.now bytes.now) }
+    // No set's low lies above its high.
+    ensures ordered { IfOk result (All IsOrderedEdit) }
     ensures few { IfOk result (λ edits. length edits ≤ 16777216) }
 {
     let judge = EditsJudge {

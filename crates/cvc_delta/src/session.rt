@@ -6,7 +6,7 @@ ghost use Rattle.cvc_bind.specs.Bound.{circuit_of};
 ghost use Rattle.cvc_model.specs.Bindable.{AreBindable};
 ghost use Rattle.cvc_power.specs.Power.{IsOrdered};
 ghost use Rattle.cvc_delta.specs.declared.fault.EditRefusal.TheVariants.{NotThere};
-ghost use Rattle.cvc_delta.specs.Edits.{AreApart, numbered};
+ghost use Rattle.cvc_delta.specs.Edits.{AreApart, numbered, unset_row as rows_left};
 ghost use Rattle.cvc_delta.specs.Rows.{AreRows, Edits, set_said, unset_said};
 ghost use Rattle.cvc_delta.specs.Session.{Began, Edited, Keeps, Rechecked};
 
@@ -114,6 +114,8 @@ impl<'c> Session<'c> {
     #[tactic(auto, using(crate::proofs::Holding::session_unset))]
     pub fn unset(&mut self, name: &[u8]) -> Result<(), EditRefusal>
         ensures rows { Edits result (unset_said self.old.rows name.now) self.old.rows self.new.rows }
+        // Where no row has the name, that leaves the rows as they are.
+        ensures left { self.new.rows ≡ rows_left self.old.rows name.now }
         ensures refusal { IfErr result (λ refusal. refusal ≡ NotThere) }
         ensures kept { Keeps (Edited result) self.old.kept self.new }
         ensures same { self.new ≡ record self.old { rows = self.new.rows; kept = self.new.kept } }
