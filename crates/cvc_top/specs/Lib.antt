@@ -1,3 +1,6 @@
 pub mod Outcome
 pub mod Further
 pub mod Expectations
+pub mod Certificates
+pub mod Rechecks
+pub mod Sessions

@@ -9,11 +9,14 @@ ghost use Rattle.cvc_top.specs.Outcome.{command_run, words_run};
 ghost use Rattle.cvc_words.specs.Command.{IsWithin, command_of};
 
 use crate::expect::expect;
+use crate::prove::prove;
+use crate::session::session;
+use crate::verify::verify;
 use cvc_base::{Text, Texts};
 use cvc_crew::NoGate;
 use cvc_io::{Shelf, Sink};
 use cvc_run::{Status, check, check_serial, survey, tell};
-use cvc_words::{Command, WordRefusal, read_words};
+use cvc_words::{Command, WordFault, WordRefusal, read_words};
 use std::alloc::Global;
 use std::sync::Wait;
 use std::thread::Threads;
@@ -65,6 +68,52 @@ fn run_command<R: Threads + Wait + Sync, S: Shelf, K: Sink>(
             power,
             expected,
             name_of(top),
+            shelf,
+            sink,
+        ),
+        Command::Prove {
+            netlist,
+            models,
+            power,
+            top,
+        } => prove(alloc, netlist, models, power, name_of(top), shelf, sink),
+        Command::Verify {
+            netlist,
+            models,
+            power,
+            log,
+            report,
+            top,
+            nets,
+        } => verify(
+            alloc,
+            netlist,
+            models,
+            power,
+            log,
+            report,
+            name_of(top),
+            *nets,
+            shelf,
+            sink,
+        ),
+        // A check of several power modes is not here yet.
+        Command::Modes { .. } => tell(&WordFault::UnknownCommand, sink),
+        Command::Session {
+            netlist,
+            models,
+            power,
+            edits,
+            top,
+            nets,
+        } => session(
+            alloc,
+            netlist,
+            models,
+            power,
+            edits,
+            name_of(top),
+            *nets,
             shelf,
             sink,
         ),

@@ -1,8 +1,9 @@
 //! Refusals of the rows of further files, as runs tell them.
 ghost use Rattle.std.specs.Prelude.{◌≡◌};
+ghost use Rattle.cvc_report.specs.Printed.{file_word};
 ghost use Rattle.cvc_top.specs.Further.{stop_about};
 
-use cvc_base::Cause;
+use cvc_base::{Cause, FileKind};
 use cvc_rows::{LineFault, Refused};
 use cvc_run::{LineCause, LineRefused, RunRefused, RunStop, Subject};
 
@@ -20,5 +21,16 @@ pub(crate) fn stop_about(
             cause: LineCause::Text(fault.cause),
         })),
         Refused::NoMemory => RunStop::NoMemory,
+    }
+}
+
+/// The word of a file in a refusal line.
+pub(crate) fn file_word(file: FileKind) -> &'static [u8]
+    ensures { result.now ≡ file_word file }
+{
+    match file {
+        FileKind::Netlist => b"netlist",
+        FileKind::Models => b"models",
+        FileKind::Power => b"power",
     }
 }
