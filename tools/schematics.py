@@ -142,6 +142,29 @@ def io_pad() -> None:
     d.done("io_pad")
 
 
+def certificate() -> None:
+    """The circuit of examples/certificate."""
+    d = Drawing(330, 190)
+    d.text(10, 99, "A")
+    d.wire((22, 95), (55, 95))
+    d.pass_mos(80, 95, "MPASS", "n")
+    d.text(80, 60, "EN", "middle")
+    d.wire((105, 95), (150, 95))
+    d.text(120, 90, "M")
+    d.dot(150, 95)
+    d.wire((190, 50), (150, 50), (150, 140), (190, 140))
+    d.supply(220, 20, "VDD")
+    d.wire((220, 20), (220, 25))
+    d.mos(220, 50, "MP", "p")
+    d.wire((220, 75), (220, 115))
+    d.mos(220, 140, "MN", "n")
+    d.ground(220, 165)
+    d.dot(220, 95)
+    d.wire((220, 95), (290, 95))
+    d.text(296, 99, "Y")
+    d.done("certificate")
+
+
 def released_bus() -> None:
     """The two drivers of examples/released_bus."""
     d = Drawing(440, 300)
@@ -186,5 +209,41 @@ def three_modes() -> None:
     d.done("three_modes")
 
 
-for draw in (level_shifter, io_pad, released_bus, three_modes):
+def leak_hunt() -> None:
+    """The monitor of examples/leak_hunt."""
+    d = Drawing(450, 330)
+    for y, supply, resistor, net, switch, on in ((60, "VUSB 5.0", "RU", "U", "X1", "S1"), (160, "VBAT 3.0", "RB", "B", "X2", "S2"), (260, "VCORE 1.2", "RC", "C", "X3", "S3")):
+        d.text(70, y + 4, supply, "end")
+        d.wire((75, y), (85, y))
+        d.resistor(110, y, resistor)
+        d.wire((135, y), (170, y))
+        d.text(145, y - 5, net)
+        d.dot(170, y)
+        d.wire((170, y), (170, y - 15), (185, y - 15))
+        d.pass_mos(210, y - 15, f"{switch}/MN", "n")
+        d.wire((235, y - 15), (250, y - 15), (250, y))
+        d.wire((170, y), (170, y + 15), (185, y + 15))
+        d.pass_mos(210, y + 15, f"{switch}/MP", "p")
+        d.wire((235, y + 15), (250, y + 15), (250, y))
+        d.text(203, y - 39, on, "end")
+        d.text(203, y + 45, f"{on}B", "end")
+        d.dot(250, y)
+        d.wire((250, y), (310, y))
+    d.wire((310, 60), (310, 260))
+    d.dot(310, 160)
+    d.wire((310, 160), (360, 160))
+    d.text(318, 155, "N")
+    d.mos(390, 160, "MI", "n")
+    d.wire((390, 135), (390, 110), (415, 110))
+    d.text(420, 114, "OUT")
+    d.ground(390, 185)
+    d.mos(340, 225, "MC", "n", 1)
+    d.wire((340, 200), (340, 160))
+    d.dot(340, 160)
+    d.text(374, 229, "CLEAR")
+    d.ground(340, 250)
+    d.done("leak_hunt")
+
+
+for draw in (level_shifter, io_pad, certificate, released_bus, three_modes, leak_hunt):
     draw()

@@ -5,6 +5,8 @@
 //! |---|---|
 //! | `report`, `report.MODE` | `check netlist.cdl models power nets`, with `power.MODE` for a mode |
 //! | `told.expected` | `expect netlist.cdl models power expected` |
+//! | `told.edits` | `session netlist.cdl models power edits nets` |
+//! | `told.LOG` | `verify netlist.cdl models power LOG report nets` |
 #![tactic(auto)]
 
 use cvc_base::{NoMemory, Text, Texts};
@@ -81,7 +83,11 @@ impl<'a> Stored<'a> {
             let power = format!(in alloc; "power{mode}")?;
             return self.words_of(alloc, "check", &[power.as_str()], true);
         }
-        self.words_of(alloc, "expect", &["power", "expected"], false)
+        match self.file.strip_prefix("told.").unwrap_or("") {
+            "expected" => self.words_of(alloc, "expect", &["power", "expected"], false),
+            "edits" => self.words_of(alloc, "session", &["power", "edits"], true),
+            log => self.words_of(alloc, "verify", &["power", log, "report"], true),
+        }
     }
 
     // Whether the command writes what is stored.

@@ -3,6 +3,8 @@
 #![tactic(auto)]
 
 #[cfg(test)]
+mod certificates;
+#[cfg(test)]
 mod hostile;
 #[cfg(test)]
 mod limits;
@@ -20,3 +22,5 @@ mod refusals;
 mod reports;
 #[cfg(test)]
 mod runs;
+#[cfg(test)]
+mod sessions;
