@@ -42,8 +42,8 @@ class Words(unittest.TestCase):
         (self.out / "cvc").write_text(STAND_IN)
         (self.out / "cvc").chmod(0o755)
         (self.out / "built").touch()
-        files = {"n": "R1 a b 1\nM1 d g s b nx\n", "m": "R resistor\n", "bad": "R resistor\nzz yy\n", "p": "a power 1\nb power x\n"}
-        files["expected"] = "a ? ?\nz 0 0\n"
+        files = {"n": "R1 a b 1\nM1 d g s b nx\n", "m": "R resistor\n", "bad": "R resistor\nzz yy\n", "p": "a power 1\nb power x\n", "q": "b power 2\n"}
+        files.update({"log": "0 0 1\n0 0 01\n", "report": "CVC report\nerrors 0\n", "expected": "a ? ?\nz 0 0\n", "edits": "recheck\nunset z\n"})
         for name, text in files.items():
             (self.folder / name).write_text(text)
 
@@ -56,35 +56,49 @@ class Words(unittest.TestCase):
         return done.stderr
 
     def test_accepted(self):
-        for words in ("check n m p", "serial n m p top=a nets", "expect n m p expected", "gen 0 1"):
-            for status in (0, 1):
-                self.assertEqual(self.told(words, "x\n", status), "")
+        for words in ("check n m p", "prove n m p", "verify n m p log report", "expect n m p expected", "session n m p edits"):
+            self.assertEqual(self.told(words, "x\n", 0), "")
+            if not words.startswith("verify"):
+                self.assertEqual(self.told(words, "x\n", 1), "")
 
     def test_refused_lines(self):
         for words, answer, status, parts in (
             ("check n m p", "refused netlist line 2 no-model", 6, ("n:2: no-model: M1 d g s b nx", "no row for nx, which line 2")),
-            ("serial n bad p", "refused models line 2 unknown-kind", 4, ("bad:2: unknown-kind: zz yy", "what to do: write nmos")),
-            ("check n m p top=zz", "refused netlist line 0 no-top", 3, ("n: no-top\n",)),
+            ("prove n bad p", "refused models line 2 unknown-kind", 4, ("bad:2: unknown-kind: zz yy", "what to do: write nmos")),
+            ("prove n m p top=zz", "refused netlist line 0 no-top", 3, ("n: no-top\n",)),
+            ("verify n m p log report nets", "refused log line 2 bad-row", 10, ("log:2: bad-row: 0 0 01", "DEVICE SLOT VALUE")),
+            ("verify n m p log report", "refused report line 1 file-too-long", 10, ("report:1: file-too-long: CVC report",)),
             ("expect n m p expected", "refused expected line 2 unknown-net", 11, ("expected:2: unknown-net: z 0 0", "names a net")),
-            ("expect n m p expected", "refused expected line 1 file-too-long", 11, ("expected:1: file-too-long: a ? ?",)),
             ("expect n m p expected", "refused power line 2 bad-voltage", 5, ("p:2: bad-voltage: b power x",)),
-            ("expect n m p expected", "refused netlist line 2 no-model", 6, ("n:2: no-model", "no row for nx")),
+            ("session n m p edits", "refused edits line 2 not-there", 13, ("edits:2: not-there: unset z", "what to do")),
         ):
             told = self.told(words, answer + "\n", status)
             for part in parts:
                 self.assertIn(part, told)
 
+    def test_session_at_its_end(self):
+        told = self.told("session n m p edits", "CVC session\nrecheck 1 errors 0\nrefused power line 2 unknown-net\n", 6)
+        self.assertIn("row 2 of the supplies as they stand at the end: unknown-net", told)
+
+    def test_verdicts(self):
+        for answer, part in (
+            ("rejected line 2", "log:2: this line does not follow from the lines before it: 0 0 01"),
+            ("rejected device X1/R1", "X1/R1 hands on a voltage that no line has"),
+            ("rejected byte 13", "report: the report is not the one that the log leads to, from line 2 on"),
+        ):
+            self.assertIn(part, self.told("verify n m p log report", answer + "\n", 1))
+
     def test_unread(self):
-        for words in ("check none m p", "check n m none nets", "expect n none p expected", "expect n m p none"):
+        for words in ("verify n m p none report", "verify n m p log none", "expect n m none log"):
             self.assertEqual(self.told(words, "", 7), "bin/cvc: none: there is no such file\n")
-        self.assertEqual(self.told("expect n . p expected", "", 7), "bin/cvc: .: is a folder\n")
-        self.assertEqual(self.told("expect n m p expected", "", 7), "bin/cvc: a file could not be read to its end\n")
+        self.assertEqual(self.told("session n . p edits", "", 7), "bin/cvc: .: is a folder\n")
+        self.assertEqual(self.told("session n m p edits", "", 7), "bin/cvc: a file could not be read to its end\n")
 
     def test_other_statuses(self):
-        self.assertIn("the words are refused: missing-word", self.told("expect n m p", "refused words missing-word\n", 2))
+        self.assertIn("the words are refused: missing-word", self.told("verify n m p log", "refused words missing-word\n", 2))
         self.assertIn("bin/cvc --help lists the words", self.told("", "refused words no-command\n", 2))
         self.assertIn("a front of the text", self.told("expect n m p expected", "CVC", 8))
-        self.assertIn("no memory", self.told("expect n m p expected", "", 9))
+        self.assertIn("no memory", self.told("session n m p edits", "", 9))
 
     def test_unproved_copies_the_files(self):
         kit = self.folder / "kit"
@@ -92,10 +106,10 @@ class Words(unittest.TestCase):
         (kit / "rt").write_text(STAND_IN_KIT)
         (kit / "rt").chmod(0o755)
         for words, told in (
-            ("check n m p nets", "power: a power 1;b power x;\n--\ncheck\nnetlist\nmodels\npower\nnets\n"),
-            ("expect n m p expected", "expected: a ? ?;z 0 0;\n--\nexpect\nnetlist\nmodels\npower\nexpected\n"),
+            ("verify n m q log report", "--data\nlog: 0 0 1;0 0 01;\n--data\nreport: CVC report;errors 0;\n--\nverify\nnetlist\nmodels\npower\nlog\nreport\n"),
+            ("session n m q edits", "edits: recheck;unset z;\n--\nsession\nnetlist\nmodels\npower\nedits\n"),
             ("expect n m zz expected", "--data\nexpected: a ? ?;z 0 0;\n--\nexpect\nnetlist\nmodels\npower\nexpected\n"),
-            ("expect n m p", "--\nexpect\nn\nm\np\n"),
+            ("session n m", "--\nsession\nn\nm\n"),
             ("gen 0 1", "--\ngen\n0\n1\n"),
         ):
             program = [str(self.top / "bin" / "cvc"), "--unproved", *words.split()]
@@ -108,10 +122,10 @@ class Words(unittest.TestCase):
     def test_help_names_each_command_and_status(self):
         told = subprocess.run([str(self.top / "bin" / "cvc"), "--help"], capture_output=True, text=True, timeout=60).stdout
         manual = (ROOT / "docs" / "cvc.1").read_text()
-        for command in ("check", "serial", "gen", "expect"):
+        for command in ("check", "serial", "gen", "prove", "verify", "expect", "session"):
             self.assertIn(f"bin/cvc {command} ", told)
             self.assertIn(f".B cvc {command}\n", manual)
-        for status in (*range(10), 11, 14, 70):
+        for status in (*range(12), 13, 14, 70):
             self.assertIn(f"\n{status:4}  ", told)
 
     def test_every_word_is_explained(self):
@@ -119,7 +133,7 @@ class Words(unittest.TestCase):
         causes = (ROOT / "crates" / "cvc_base" / "src" / "cause.rt").read_text()
         words = {part.split('"')[0] for part in causes.split('b"')[1:]}
         self.assertIn("bad-row", words)
-        for word in sorted(words):
+        for word in sorted(words | {"not-there"}):
             self.assertIn(f"\n| `{word}` | ", table)
 
 
