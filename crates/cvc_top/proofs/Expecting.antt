@@ -9,10 +9,10 @@ use Rattle.cvc_bind.specs.Nets.{nets_of}
 use Rattle.cvc_expect.specs.declared.missed.Missed.{Missed}
 use Rattle.cvc_expect.specs.declared.row.ExpectRow.{ExpectRow}
 use Rattle.cvc_expect.specs.Misses.{missed_from}
-use Rattle.cvc_expect.specs.Missed.{at_lines, missed_of}
+use Rattle.cvc_expect.specs.Missed.{missed_of}
 use Rattle.cvc_expect.specs.Rows.{expected_of, name_of, verdict}
 use Rattle.cvc_flat.specs.Flat.{FlatList}
-use Rattle.cvc_io.specs.Files.{Counts, Files, content}
+use Rattle.cvc_io.specs.Files.{Counts, Files}
 use Rattle.cvc_law.specs.declared.interval.Interval.{Interval}
 use Rattle.cvc_rows.specs.Refusing.{Answers as RowsAnswer}
 use Rattle.cvc_rows.specs.Rows.{as_written}
@@ -39,7 +39,7 @@ use Rattle.cvc_run.proofs.Answering.{run_answers, told_run_refused}
 use Rattle.cvc_run.proofs.Limits.{rows-up_to}
 use Rattle.cvc_run.proofs.Loading.{of_weaker}
 use Rattle.cvc_top.specs.declared.expect.Compared.{Compared}
-use Rattle.cvc_top.specs.Expectations.{AreComparable, ExpectFiles, IsComparison, IsExpectOutcome, bound_of_files, compared_ending, comparison_ending, expect_run, rows_of_files, status_of, told_of}
+use Rattle.cvc_top.specs.Expectations.{AreComparable, ExpectFiles, IsComparison, IsExpectOutcome, bound_of_files, compared_ending, comparison_ending, expect_run, rows_of_files, status_of}
 use Rattle.cvc_top.specs.Further.{about, refused_about, stop_about}
 
 -- ## Statuses

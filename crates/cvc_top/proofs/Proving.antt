@@ -8,7 +8,7 @@ use Rattle.cvc_run.specs.Outside.{Ending, Taken}
 use Rattle.cvc_run.specs.Run.{Answers}
 use Rattle.cvc_run.specs.Said.{Whole, bound_of}
 use Rattle.cvc_run.specs.Stops.{ReadOnlyWhere, Says}
-use Rattle.cvc_run.specs.Telling.{IsAccepted, IsTold, Stands, TellsRun}
+use Rattle.cvc_run.specs.Telling.{IsAccepted, Stands, TellsRun}
 use Rattle.cvc_run.specs.declared.stage.Refused.{Refused}
 use Rattle.cvc_run.specs.declared.status.Status.{Status}
 use Rattle.cvc_run.specs.declared.stop.RunStop.{RunStop}

@@ -1,14 +1,11 @@
 -- Edits of a session that are done one behind another, and what their checks find.
-use Rattle.std.proofs.Common.{◌≡◌, ℕ, suc, ◌+◌, ◌<◌, List, [], ◌∷◌, ◌++◌, length, take, get_or, Option, Some, None, Result, Ok, Err, refl, sym, ap, subst, ◌∙◌, arith}
-use Rattle.std.specs.Prelude.{IsSomeAnd}
+use Rattle.std.proofs.Common.{◌≡◌, ℕ, suc, ◌+◌, ◌<◌, List, [], ◌∷◌, ◌++◌, length, take, get_or, refl, sym, ap, subst, ◌∙◌, arith}
 use Rattle.std.proofs.Math.Seq.{take-suc}
-use Rattle.cvc_base.specs.declared.fault.Fault.{Fault}
 use Rattle.cvc_delta.specs.declared.edit.Edit.{Edit}
 use Rattle.cvc_delta.specs.declared.edit.Edit.TheVariants as edits
 use Rattle.cvc_delta.specs.Edits.{after, after_all}
-use Rattle.cvc_delta.specs.Session.{IsCheckOf, SessionView}
+use Rattle.cvc_delta.specs.Session.{SessionView}
 use Rattle.cvc_flat.specs.Flat.{FlatList}
-use Rattle.cvc_judge.specs.declared.judged.Judged.{Judged}
 use Rattle.cvc_model.specs.declared.row.ModelRow.{ModelRow}
 use Rattle.cvc_power.specs.declared.row.PowerRow.{PowerRow}
 use Rattle.cvc_top.specs.declared.rechecks.Recheck.{Recheck}

@@ -1,5 +1,5 @@
 -- What the files of an edit session say, one after another.
-use Rattle.std.proofs.Common.{◌≡◌, ℕ, inl, inr, true, List, [], ◌∷◌, Option, Some, None, refl, sym, ap, subst, ◌∙◌}
+use Rattle.std.proofs.Common.{◌≡◌, ℕ, inl, inr, true, List, Option, Some, None, refl, sym, ap, subst, ◌∙◌}
 use Rattle.std.specs.Prelude.{IfSome, Result, Ok, Err, is_ok}
 use Rattle.cvc_base.specs.Answers.{IfAt as IfReaderAt}
 use Rattle.cvc_base.specs.declared.fault.Fault.{Fault}
@@ -12,7 +12,6 @@ use Rattle.cvc_delta.specs.declared.fault.EditsCause.{EditsCause}
 use Rattle.cvc_delta.specs.Reading.{edits_of, told, verdict}
 use Rattle.cvc_io.specs.Causes.{Rose}
 use Rattle.cvc_io.specs.Files.{Counts, Files, NoneFalls, content}
-use Rattle.cvc_model.specs.declared.row.ModelRow.{ModelRow}
 use Rattle.cvc_power.specs.declared.row.PowerRow.{PowerRow}
 use Rattle.cvc_power.specs.Power.{power_of, verdict as power_verdict}
 use Rattle.cvc_rows.specs.declared.refused.LineFault.{LineFault}
@@ -25,7 +24,7 @@ use Rattle.cvc_run.specs.Lines.{run_refused_ending, stop_of}
 use Rattle.cvc_run.specs.Loads.{OfContent, up_to}
 use Rattle.cvc_run.specs.Said.{Parts, design_of, parts}
 use Rattle.cvc_run.specs.Stages.{at_stage, refused}
-use Rattle.cvc_run.specs.Stops.{IfAt, ReadOnlyWhere, Says}
+use Rattle.cvc_run.specs.Stops.{IfAt, Says}
 use Rattle.cvc_run.specs.declared.lines.RunRefused.{RunRefused}
 use Rattle.cvc_run.specs.declared.lines.RunRefused.TheVariants as refusals
 use Rattle.cvc_run.specs.declared.stage.Refused.{Refused}

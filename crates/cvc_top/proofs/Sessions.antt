@@ -1,5 +1,5 @@
 -- What the run of an edit session answers.
-use Rattle.std.proofs.Common.{◌≡◌, ℕ, inl, inr, ◌⊎◌, List, [], ◌∷◌, Option, Some, None, refl, sym, ap, subst, ◌∙◌}
+use Rattle.std.proofs.Common.{◌≡◌, inl, inr, List, [], ◌∷◌, Option, Some, None, refl, sym, ap, subst, ◌∙◌}
 use Rattle.std.specs.Prelude.{Bool, IfOk, IfSome, IsOk, IsSomeAnd, Result, Ok, Err}
 use Rattle.cvc_base.specs.declared.fault.Fault.{Fault}
 use Rattle.cvc_base.specs.declared.finding.Finding.{Finding}
@@ -10,33 +10,28 @@ use Rattle.cvc_delta.specs.Session.{IsCheckOf, SessionView}
 use Rattle.cvc_flat.specs.Flat.{FlatList}
 use Rattle.cvc_io.specs.Files.{Counts, Files}
 use Rattle.cvc_judge.specs.declared.judged.Judged.{Judged}
-use Rattle.cvc_law.specs.declared.interval.Interval.{Interval}
-use Rattle.cvc_law.specs.Network.{Network}
 use Rattle.cvc_law.specs.Rules.{findings_of}
 use Rattle.cvc_model.specs.declared.row.ModelRow.{ModelRow}
 use Rattle.cvc_power.specs.declared.row.PowerRow.{PowerRow}
 use Rattle.cvc_run.specs.Due.{DueFailed}
 use Rattle.cvc_run.specs.Lines.{run_refused_ending}
 use Rattle.cvc_run.specs.Outcome.{Behind, IsEnd, IsOfFiles, refused_ending, report_of, status_of}
-use Rattle.cvc_run.specs.Outside.{Ending, Outcome, Taken, ending}
+use Rattle.cvc_run.specs.Outside.{Ending, Taken, ending}
 use Rattle.cvc_run.specs.Run.{Answers}
 use Rattle.cvc_run.specs.Said.{Parts, Whole, bound_with, whole}
-use Rattle.cvc_run.specs.Stages.{at_stage, refused, status_at}
+use Rattle.cvc_run.specs.Stages.{refused}
 use Rattle.cvc_run.specs.Stops.{IfAt, IsNeverAt, ReadOnlyWhere, Says}
 use Rattle.cvc_run.specs.Telling.{IsAccepted, IsTold, Stands, TellsRun}
 use Rattle.cvc_run.specs.declared.lines.RunRefused.{RunRefused}
 use Rattle.cvc_run.specs.declared.stage.Refused.{Refused}
-use Rattle.cvc_run.specs.declared.stage.Stage.{Stage}
 use Rattle.cvc_run.specs.declared.stage.Stage.TheVariants as stages
 use Rattle.cvc_run.specs.declared.status.Status.{Status}
-use Rattle.cvc_run.specs.declared.status.Status.TheVariants as statuses
 use Rattle.cvc_run.specs.declared.stop.RunStop.{RunStop}
 use Rattle.cvc_run.specs.declared.stop.RunStop.TheVariants.{At, Read, NoMemory}
 use Rattle.cvc_run.proofs.Answering.{accepted_findings, run_answers, told_findings, told_refused, told_run_refused}
 use Rattle.cvc_top.specs.declared.rechecks.Finished.{Finished}
-use Rattle.cvc_top.specs.declared.rechecks.Recheck.{Recheck}
 use Rattle.cvc_top.specs.declared.session.Inputs.{Inputs}
-use Rattle.cvc_top.specs.Rechecks.{CanTell, CanTellCheck, IsChecked, IsFinished, IsReportable, check_ending, finished_ending, kept_ending, last_ending, told_session}
+use Rattle.cvc_top.specs.Rechecks.{CanTell, CanTellCheck, IsChecked, IsFinished, IsReportable, check_ending, finished_ending, kept_ending, last_ending}
 use Rattle.cvc_top.specs.Sessions.{InputsView, IsAcceptedSession, IsCheckEnd, IsOfSession, IsSessionOutcome, OfEdits, SessionFiles, inputs_in, inputs_view, session_due, session_run}
 
 -- ## The last check

@@ -1,21 +1,20 @@
 -- What the run of `verify` answers.
-use Rattle.std.proofs.Common.{◌≡◌, ℕ, ◌+◌, ◌<◌, ◌≤◌, inl, inr, ◌⊎◌, Bool, true, false, List, [], ◌∷◌, ◌++◌, length, map, take, drop, Option, Some, None, refl, sym, ap, subst, ◌∙◌, arith, take-append-drop}
-use Rattle.std.specs.Prelude.{IfOk, IfSome, IsOk, IsSomeAnd, Result, Ok, Err, is_ok, nat_lt}
+use Rattle.std.proofs.Common.{◌≡◌, ℕ, ◌+◌, ◌<◌, ◌≤◌, inl, inr, ◌⊎◌, Bool, true, false, List, ◌++◌, length, map, take, drop, Option, Some, None, refl, sym, ap, subst, ◌∙◌, arith, take-append-drop}
+use Rattle.std.specs.Prelude.{IfSome, IsOk, IsSomeAnd, Result, Ok, Err, is_ok, nat_lt}
 use Rattle.std.specs.List.{count_by}
 use Rattle.std.proofs.lemmas.Bool.{lt-ltb, ltb-false, ltb-true}
 use Rattle.std.proofs.lemmas.List.{length-map, length-take, length-take-le, take-append-le, take_all}
 use Rattle.std.proofs.lemmas.List.Sums.{count_by-le-length}
 use Rattle.cvc_base.specs.declared.cause.Cause.{Cause}
 use Rattle.cvc_base.specs.declared.cause.Cause.TheVariants.{FileTooLong}
-use Rattle.cvc_base.specs.declared.ids.NetId.{NetId}
 use Rattle.cvc_chain.specs.Reading.{is_line_feed, limit, log_of}
-use Rattle.cvc_chain.specs.Verdict.{IsRightReport, IsRightWhereYes, Says as IsVerdict}
+use Rattle.cvc_chain.specs.Verdict.{IsRightWhereYes, Says as IsVerdict}
 use Rattle.cvc_chain.specs.declared.verdict.Verdict.{Verdict}
 use Rattle.cvc_chain.specs.declared.verdict.Verdict.TheVariants.{Yes, Line, Device, Byte}
 use Rattle.cvc_flat.specs.Flat.{FlatList}
 use Rattle.cvc_io.specs.Files.{Counts, Files, content}
 use Rattle.cvc_law.specs.Bound.{IsBound, pins_of_device}
-use Rattle.cvc_law.specs.Network.{Network, devices}
+use Rattle.cvc_law.specs.Network.{Network}
 use Rattle.cvc_law.specs.Rules.{findings_of}
 use Rattle.cvc_rows.specs.Refusing.{Answers as RowsAnswer}
 use Rattle.cvc_rows.specs.declared.refused.LineFault.{LineFault}
@@ -46,7 +45,7 @@ use Rattle.cvc_run.proofs.Answering.{run_answers, told_run_refused}
 use Rattle.cvc_run.proofs.Loading.{of_weaker}
 use Rattle.cvc_serial.specs.declared.log.LogLine.{LogLine}
 use Rattle.cvc_top.specs.declared.verify.Judgement.{Judgement}
-use Rattle.cvc_top.specs.Certificates.{IsClaim, IsNamed, IsOwnReport, IsVerdictOn, IsVerifyOutcome, VerifyFiles, bound_of_files, is_log_accepted, job_of, judgement_ending, line_past, log_of_files, report_in, report_of_files, verdict_ending, verify_run}
+use Rattle.cvc_top.specs.Certificates.{IsClaim, IsNamed, IsOwnReport, IsVerdictOn, IsVerifyOutcome, VerifyFiles, bound_of_files, is_log_accepted, judgement_ending, line_past, log_of_files, report_in, report_of_files, verdict_ending, verify_run}
 use Rattle.cvc_top.specs.Further.{about, refused_about, stop_about}
 use Rattle.cvc_top.proofs.Expecting.{stands_weaker}
 use Rattle.cvc_top.proofs.LogLimit.{log-up_to}

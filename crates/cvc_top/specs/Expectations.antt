@@ -4,16 +4,15 @@ use Rattle.std.specs.Prelude.{◌≡◌, ℕ, List, [], ◌∷◌, All, map, Opt
 use Rattle.cvc_bind.specs.Nets.{nets_of}
 use Rattle.cvc_expect.specs.declared.missed.Missed.{Missed}
 use Rattle.cvc_expect.specs.declared.row.ExpectRow.{ExpectRow}
-use Rattle.cvc_expect.specs.Missed.{at_lines, missed_of}
+use Rattle.cvc_expect.specs.Missed.{missed_of}
 use Rattle.cvc_expect.specs.Rows.{expected_of, name_of}
 use Rattle.cvc_expect.specs.Text.{IsTellable, missed_text}
 use Rattle.cvc_io.specs.Files.{Files, content}
 use Rattle.cvc_law.specs.declared.interval.Interval.{Interval}
 use Rattle.cvc_law.specs.Least.{IsLeast}
 use Rattle.cvc_base.specs.declared.cause.Cause.{Cause}
-use Rattle.cvc_base.specs.Order.{◌>>=◌}
 use Rattle.cvc_rows.specs.declared.refused.LineFault.{LineFault}
-use Rattle.cvc_run.specs.Due.{Due, Reading, bound_due}
+use Rattle.cvc_run.specs.Due.{Reading, bound_due}
 use Rattle.cvc_run.specs.Lines.{run_refused_ending}
 use Rattle.cvc_run.specs.Outcome.{Behind, refused_ending}
 use Rattle.cvc_run.specs.Outside.{Ending, Outcome, ending}

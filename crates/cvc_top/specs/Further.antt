@@ -1,5 +1,5 @@
 -- What the runs of further commands share: refusals of lines of their files, and what may be said where the files aren't told.
-use Rattle.std.specs.Prelude.{◌≡◌, ℕ, List, Option, IfSome, Result, Ok, Err, ◌⊎◌}
+use Rattle.std.specs.Prelude.{◌≡◌, Option, IfSome, Result, Ok, Err, ◌⊎◌}
 use Rattle.cvc_base.specs.declared.cause.Cause.{Cause}
 use Rattle.cvc_io.specs.Files.{Files}
 use Rattle.cvc_rows.specs.declared.refused.LineFault.{LineFault}

@@ -7,11 +7,11 @@ use Rattle.cvc_run.specs.Outcome.{job_run, survey_run, words_ending}
 use Rattle.cvc_run.specs.Run.{Run}
 use Rattle.cvc_top.specs.Certificates.{prove_run, verify_files, verify_run}
 use Rattle.cvc_top.specs.Expectations.{expect_files, expect_run}
+use Rattle.cvc_top.specs.Modes.{modes_run}
 use Rattle.cvc_top.specs.Sessions.{session_files, session_run}
 use Rattle.cvc_words.specs.declared.command.Command.{Command}
 use Rattle.cvc_words.specs.declared.command.Command.TheVariants.{Check, Serial, Gen, Expect, Prove, Verify, Modes, Session}
 use Rattle.cvc_words.specs.declared.fault.WordFault.{WordFault}
-use Rattle.cvc_words.specs.declared.fault.WordFault.TheVariants.{UnknownCommand}
 
 -- words that are refused
 abbrev pub refused_run : WordFault → Run
@@ -24,8 +24,7 @@ command_run files (Gen seed size workers) = survey_run seed size
 command_run files (Expect netlist models power expected top) = expect_run files (expect_files netlist models power expected top)
 command_run files (Prove netlist models power top) = prove_run files top netlist models power
 command_run files (Verify netlist models power log report top nets) = verify_run files (verify_files netlist models power log report top nets)
--- a check of several power modes is not here yet
-command_run files (Modes netlist models list top) = refused_run UnknownCommand
+command_run files (Modes netlist models list top) = modes_run files top netlist models list
 command_run files (Session netlist models power edits top nets) = session_run files (session_files netlist models power edits top) nets
 
 -- the run of what the words say: a command, or their fault

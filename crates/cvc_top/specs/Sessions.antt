@@ -2,7 +2,6 @@
 -- places; the edits are done to them in order, with a check where one asks for it; and it ends as a check of the rows ends that they leave. A fault of binding is
 -- met by checks alone, so only the last one refuses the session.
 use Rattle.std.specs.Prelude.{◌≡◌, ℕ, Bool, true, List, [], ◌∷◌, All, Option, IsSomeAnd, Result, Ok, Err, IsOk, ◌⊎◌}
-use Rattle.cvc_base.specs.declared.fault.Fault.{Fault}
 use Rattle.cvc_base.specs.declared.fault.Refusal.{Refusal}
 use Rattle.cvc_base.specs.declared.fault.Refusal.TheVariants as refused_rows
 use Rattle.cvc_base.specs.Order.{◌>>=◌}
@@ -19,7 +18,7 @@ use Rattle.cvc_power.specs.Power.{IsOrdered, power_of}
 use Rattle.cvc_rows.specs.declared.refused.LineFault.{LineFault}
 use Rattle.cvc_rows.specs.declared.refused.Refused.{Refused as RowsRefused}
 use Rattle.cvc_rows.specs.declared.refused.Refused.TheVariants as rows
-use Rattle.cvc_run.specs.Due.{Due, Named, Reading, reading}
+use Rattle.cvc_run.specs.Due.{Due, Named, reading}
 use Rattle.cvc_run.specs.Lines.{refused_line, run_refused_ending}
 use Rattle.cvc_run.specs.Outcome.{Behind, IsEnd, IsOfFiles, refused_ending, report_of}
 use Rattle.cvc_run.specs.Outside.{Ending, Outcome}

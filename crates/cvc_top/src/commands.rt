@@ -9,14 +9,16 @@ ghost use Rattle.cvc_top.specs.Outcome.{command_run, words_run};
 ghost use Rattle.cvc_words.specs.Command.{IsWithin, command_of};
 
 use crate::expect::expect;
+use crate::modes::modes;
 use crate::prove::prove;
 use crate::session::session;
 use crate::verify::verify;
 use cvc_base::{Text, Texts};
 use cvc_crew::NoGate;
 use cvc_io::{Shelf, Sink};
+use cvc_modes::NoModeGate;
 use cvc_run::{Status, check, check_serial, survey, tell};
-use cvc_words::{Command, WordFault, WordRefusal, read_words};
+use cvc_words::{Command, WordRefusal, read_words};
 use std::alloc::Global;
 use std::sync::Wait;
 use std::thread::Threads;
@@ -97,8 +99,22 @@ fn run_command<R: Threads + Wait + Sync, S: Shelf, K: Sink>(
             shelf,
             sink,
         ),
-        // A check of several power modes is not here yet.
-        Command::Modes { .. } => tell(&WordFault::UnknownCommand, sink),
+        Command::Modes {
+            netlist,
+            models,
+            list,
+            top,
+        } => modes(
+            rt,
+            alloc,
+            netlist,
+            models,
+            list,
+            name_of(top),
+            shelf,
+            sink,
+            &NoModeGate,
+        ),
         Command::Session {
             netlist,
             models,
