@@ -5,6 +5,7 @@ ghost use Rattle.cvc_io.specs.Memory.{standing_of};
 use crate::reports::{INVERTERS, RING};
 use crate::runs::{Case, ROOM, expect_words, shelf_of, words_of};
 use cvc_base::NoMemory;
+use cvc_gen::netlist_of;
 use cvc_io::{MemShelf, MemSink};
 use cvc_top::top;
 use std::alloc::{AllocError, Global};
@@ -12,6 +13,9 @@ use std::process::Abort;
 use std::sync::Wait;
 use std::test::Fail;
 use std::thread::Threads;
+
+/// Room for the log and the report of a large circuit.
+const LARGE: usize = 16_777_216;
 
 /// The names of the files of `verify`.
 const NAMES: &[&[u8]] = &[b"n", b"m", b"p", b"l", b"r"];
@@ -241,6 +245,41 @@ fn proved_logs(rt: HostRuntime) -> Result<(), Fail> {
         let log = proved(&rt, alloc, &case)?;
         expect_verdict(&rt, alloc, &case, log.bytes(), case.text, 0, b"verified\n")?;
     }
+    Ok(())
+}
+
+/// What a command over these files writes, for a shelf that holds them.
+fn written<R: Abort + Threads + Wait + Sync>(
+    rt: &R,
+    alloc: Global,
+    command: &[u8],
+    shelf: &mut MemShelf,
+) -> Result<MemSink, NoMemory>
+    requires { standing_of shelf.old ≡ None }
+    ensures { standing_of shelf.new ≡ None }
+{
+    let words = words_of(alloc, command, &[b"n", b"m", b"p"], &[])?;
+    let mut sink = MemSink::new(alloc, LARGE)?;
+    let status = top(rt, alloc, &words, shelf, &mut sink);
+    assert!(rt; status.code() < 2);
+    Ok(sink)
+}
+
+// A circuit of many stages: its log is verified with its report, and not with a report that is cut.
+#[test]
+fn generated_circuit(rt: HostRuntime) -> Result<(), Fail> {
+    let alloc = rt.alloc();
+    let made = netlist_of(alloc, 0, 60_000)?;
+    let mut shelf = MemShelf::new(alloc);
+    shelf.add(b"n", made.netlist.bytes())?;
+    shelf.add(b"m", made.models.bytes())?;
+    shelf.add(b"p", made.power.bytes())?;
+    let log = written(&rt, alloc, b"prove", &mut shelf)?;
+    let report = written(&rt, alloc, b"check", &mut shelf)?;
+    shelf.add(b"l", log.bytes())?;
+    shelf.add(b"r", report.bytes())?;
+    let words = words_of(alloc, b"verify", NAMES, &[])?;
+    expect_words(&rt, alloc, &words, &mut shelf, ROOM, 0, b"verified\n")?;
     Ok(())
 }
 

@@ -5,6 +5,8 @@
 #[cfg(test)]
 mod certificates;
 #[cfg(test)]
+mod edit_lists;
+#[cfg(test)]
 mod hostile;
 #[cfg(test)]
 mod limits;
@@ -12,6 +14,8 @@ mod limits;
 mod loads;
 #[cfg(test)]
 mod made;
+#[cfg(test)]
+mod modes;
 #[cfg(test)]
 mod opened;
 #[cfg(test)]

@@ -45,6 +45,17 @@ fn shelf_of(alloc: Global, case: &Case) -> Result<MemShelf, NoMemory>
     Ok(shelf)
 }
 
+/// A shelf with these files, each a name and its bytes.
+fn shelf_with(alloc: Global, files: &[(&[u8], &[u8])]) -> Result<MemShelf, NoMemory>
+    ensures { IfOk result (λ shelf. standing_of shelf ≡ None) }
+{
+    let mut shelf = MemShelf::new(alloc);
+    for (name, bytes) in files {
+        shelf.add(name, bytes)?;
+    }
+    Ok(shelf)
+}
+
 fn expect_case<R: Abort + Threads + Wait + Sync>(
     rt: &R,
     alloc: Global,
@@ -170,6 +181,40 @@ fn refused_files(rt: HostRuntime) -> Result<(), Fail> {
     ];
     for case in &cases {
         expect_case(&rt, rt.alloc(), case)?;
+    }
+    Ok(())
+}
+
+// The files are read in order, and none behind one that is refused: it isn't there.
+#[test]
+fn order_of_files(rt: HostRuntime) -> Result<(), Fail> {
+    let alloc = rt.alloc();
+    let cases: [(&[(&[u8], &[u8])], u8, &[u8]); 4] = [
+        (
+            &[(b"n", b"R1 VDD\n")],
+            3,
+            b"refused netlist line 1 short-card\n",
+        ),
+        (
+            &[(b"n", ONE.netlist), (b"m", b"R\n")],
+            4,
+            b"refused models line 1 bad-row\n",
+        ),
+        (
+            &[(b"n", ONE.netlist), (b"m", ONE.models), (b"p", b"VDD\n")],
+            5,
+            b"refused power line 1 bad-row\n",
+        ),
+        (
+            &[(b"n", ONE.netlist), (b"m", ONE.models), (b"p", ONE.power)],
+            7,
+            b"",
+        ),
+    ];
+    let words = texts_of(alloc, &[b"session", b"n", b"m", b"p", b"e"])?;
+    for (files, status, text) in cases {
+        let mut shelf = shelf_with(alloc, files)?;
+        expect_words(&rt, alloc, &words, &mut shelf, ROOM, status, text)?;
     }
     Ok(())
 }
