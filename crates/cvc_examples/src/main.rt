@@ -5,12 +5,18 @@
 //! |---|---|
 //! | `report`, `report.MODE` | `check netlist.cdl models power nets`, with `power.MODE` for a mode |
 //! | `told.expected` | `expect netlist.cdl models power expected` |
+//! | `told.modes` | `modes netlist.cdl models modes` |
 //! | `told.edits` | `session netlist.cdl models power edits nets` |
 //! | `told.LOG` | `verify netlist.cdl models power LOG report nets` |
+//!
+//! Each stored report is verified too, with the log that `prove` writes over the same files.
 #![tactic(auto)]
 
+ghost use Rattle.std.specs.Prelude.{◌≡◌, None};
+ghost use Rattle.cvc_io.specs.Memory.{standing_of};
+
 use cvc_base::{NoMemory, Text, Texts};
-use cvc_io::{FileShelf, MemSink};
+use cvc_io::{FileShelf, MemShelf, MemSink, Shelf};
 use cvc_run::{LoadFault, load_file};
 use cvc_top::{Status, top};
 use std::alloc::Global;
@@ -77,14 +83,22 @@ impl<'a> Stored<'a> {
         Ok(words)
     }
 
+    // The name of the power file of a stored report, without the folder; none where something else is stored.
+    fn power_file(&self, alloc: Global) -> Result<Option<String>, NoMemory> {
+        match self.file.strip_prefix("report") {
+            Some(mode) => Ok(Some(format!(in alloc; "power{mode}")?)),
+            None => Ok(None),
+        }
+    }
+
     // The words of the command that writes the output.
     fn words(&self, alloc: Global) -> Result<Texts, NoMemory> {
-        if let Some(mode) = self.file.strip_prefix("report") {
-            let power = format!(in alloc; "power{mode}")?;
+        if let Some(power) = self.power_file(alloc)? {
             return self.words_of(alloc, "check", &[power.as_str()], true);
         }
         match self.file.strip_prefix("told.").unwrap_or("") {
             "expected" => self.words_of(alloc, "expect", &["power", "expected"], false),
+            "modes" => self.words_of(alloc, "modes", &["modes"], false),
             "edits" => self.words_of(alloc, "session", &["power", "edits"], true),
             log => self.words_of(alloc, "verify", &["power", log, "report"], true),
         }
@@ -107,6 +121,68 @@ impl<'a> Stored<'a> {
         let stored = load_file(alloc, &name, u64::from(ROOM), &mut shelf)?;
         Ok(stored.bytes() == sink.bytes())
     }
+
+    // Puts a file of the folder on a shelf in memory.
+    fn hold<S: Shelf>(
+        &self,
+        alloc: Global,
+        file: &str,
+        shelf: &mut S,
+        held: &mut MemShelf,
+    ) -> Result<(), LoadFault>
+        requires shelf { S.standing shelf.old ≡ None }
+        requires held { standing_of held.old ≡ None }
+        ensures shelf { S.standing shelf.new ≡ None }
+        ensures held { standing_of held.new ≡ None }
+    {
+        let name = self.name_of(alloc, file)?;
+        let text = load_file(alloc, &name, u64::from(ROOM), shelf)?;
+        held.add(name.bytes(), text.bytes())?;
+        Ok(())
+    }
+
+    // Whether the stored report is verified with the log of `prove` over the same files.
+    fn is_verified<R: Files + Threads + Wait + Sync>(
+        &self,
+        rt: &R,
+        alloc: Global,
+        power: &str,
+    ) -> Result<bool, LoadFault> {
+        let mut shelf = FileShelf::new(rt);
+        let mut log = MemSink::new(alloc, usize::from(ROOM))?;
+        let words = self.words_of(alloc, "prove", &[power], false)?;
+        if top(rt, alloc, &words, &mut shelf, &mut log) != Status::Clean {
+            return Ok(false);
+        }
+        let mut held = MemShelf::new(alloc);
+        self.hold(alloc, "netlist.cdl", &mut shelf, &mut held)?;
+        self.hold(alloc, "models", &mut shelf, &mut held)?;
+        self.hold(alloc, power, &mut shelf, &mut held)?;
+        self.hold(alloc, self.file, &mut shelf, &mut held)?;
+        held.add(self.name_of(alloc, "proved")?.bytes(), log.bytes())?;
+        let mut verdict = MemSink::new(alloc, usize::from(ROOM))?;
+        let words = self.words_of(alloc, "verify", &[power, "proved", self.file], true)?;
+        let status = top(rt, alloc, &words, &mut held, &mut verdict);
+        Ok(status == Status::Clean && verdict.bytes() == b"verified\n".as_slice())
+    }
+
+    // What is found of it.
+    fn judge<R: Files + Threads + Wait + Sync>(
+        &self,
+        rt: &R,
+        alloc: Global,
+    ) -> Result<&'static str, LoadFault> {
+        if !self.is_met(rt, alloc)? {
+            return Ok("not as stored");
+        }
+        match self.power_file(alloc)? {
+            None => Ok("as stored"),
+            Some(power) if self.is_verified(rt, alloc, power.as_str())? => Ok(
+                "as stored, verified",
+            ),
+            Some(_) => Ok("as stored, not verified"),
+        }
+    }
 }
 
 // What is said of an argument.
@@ -118,11 +194,7 @@ fn verdict_of<R: Files + Threads + Wait + Sync>(
     let Some(stored) = Stored::of(argument) else {
         return "no stored output";
     };
-    match stored.is_met(rt, alloc) {
-        Ok(true) => "as stored",
-        Ok(false) => "not as stored",
-        Err(_) => "not read",
-    }
+    stored.judge(rt, alloc).unwrap_or("not read")
 }
 
 fn main(rt: HostRuntime) -> ExitCode {
