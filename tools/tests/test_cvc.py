@@ -44,6 +44,7 @@ class Words(unittest.TestCase):
         (self.out / "built").touch()
         files = {"n": "R1 a b 1\nM1 d g s b nx\n", "m": "R resistor\n", "bad": "R resistor\nzz yy\n", "p": "a power 1\nb power x\n", "q": "b power 2\n"}
         files.update({"log": "0 0 1\n0 0 01\n", "report": "CVC report\nerrors 0\n", "expected": "a ? ?\nz 0 0\n", "edits": "recheck\nunset z\n"})
+        files.update({"list": "# modes\non  p\noff q # falls\n", "long": "a p\n" * 17})
         for name, text in files.items():
             (self.folder / name).write_text(text)
 
@@ -56,7 +57,7 @@ class Words(unittest.TestCase):
         return done.stderr
 
     def test_accepted(self):
-        for words in ("check n m p", "prove n m p", "verify n m p log report", "expect n m p expected", "session n m p edits"):
+        for words in ("check n m p", "prove n m p", "verify n m p log report", "expect n m p expected", "modes n m list", "session n m p edits"):
             self.assertEqual(self.told(words, "x\n", 0), "")
             if not words.startswith("verify"):
                 self.assertEqual(self.told(words, "x\n", 1), "")
@@ -70,6 +71,10 @@ class Words(unittest.TestCase):
             ("verify n m p log report", "refused report line 1 file-too-long", 10, ("report:1: file-too-long: CVC report",)),
             ("expect n m p expected", "refused expected line 2 unknown-net", 11, ("expected:2: unknown-net: z 0 0", "names a net")),
             ("expect n m p expected", "refused power line 2 bad-voltage", 5, ("p:2: bad-voltage: b power x",)),
+            ("modes n m long", "refused modes line 17 too-many-modes", 12, ("long:17: too-many-modes: a p", "at most 16")),
+            ("modes n m list", "refused mode on power line 2 bad-voltage", 5, ("in the mode on:", "p:2: bad-voltage: b power x")),
+            ("modes n m list", "refused mode off power line 1 unknown-net", 6, ("in the mode off:", "q:1: unknown-net: b power 2")),
+            ("modes n m list", "refused mode off netlist line 2 no-model", 6, ("n:2: no-model", "no row for nx")),
             ("session n m p edits", "refused edits line 2 not-there", 13, ("edits:2: not-there: unset z", "what to do")),
         ):
             told = self.told(words, answer + "\n", status)
@@ -89,8 +94,9 @@ class Words(unittest.TestCase):
             self.assertIn(part, self.told("verify n m p log report", answer + "\n", 1))
 
     def test_unread(self):
-        for words in ("verify n m p none report", "verify n m p log none", "expect n m none log"):
-            self.assertEqual(self.told(words, "", 7), "bin/cvc: none: there is no such file\n")
+        (self.folder / "q").unlink()
+        for words, name in (("verify n m p none report", "none"), ("verify n m p log none", "none"), ("expect n m none log", "none"), ("modes n m list", "q")):
+            self.assertEqual(self.told(words, "", 7), f"bin/cvc: {name}: there is no such file\n")
         self.assertEqual(self.told("session n . p edits", "", 7), "bin/cvc: .: is a folder\n")
         self.assertEqual(self.told("session n m p edits", "", 7), "bin/cvc: a file could not be read to its end\n")
 
@@ -98,18 +104,20 @@ class Words(unittest.TestCase):
         self.assertIn("the words are refused: missing-word", self.told("verify n m p log", "refused words missing-word\n", 2))
         self.assertIn("bin/cvc --help lists the words", self.told("", "refused words no-command\n", 2))
         self.assertIn("a front of the text", self.told("expect n m p expected", "CVC", 8))
-        self.assertIn("no memory", self.told("session n m p edits", "", 9))
+        self.assertIn("no memory", self.told("modes n m list", "", 9))
 
     def test_unproved_copies_the_files(self):
         kit = self.folder / "kit"
         kit.mkdir()
         (kit / "rt").write_text(STAND_IN_KIT)
         (kit / "rt").chmod(0o755)
+        (self.folder / "list").write_text("# modes\non  p\noff q # falls\nnone zz\n")
         for words, told in (
             ("verify n m q log report", "--data\nlog: 0 0 1;0 0 01;\n--data\nreport: CVC report;errors 0;\n--\nverify\nnetlist\nmodels\npower\nlog\nreport\n"),
             ("session n m q edits", "edits: recheck;unset z;\n--\nsession\nnetlist\nmodels\npower\nedits\n"),
             ("expect n m zz expected", "--data\nexpected: a ? ?;z 0 0;\n--\nexpect\nnetlist\nmodels\npower\nexpected\n"),
-            ("session n m", "--\nsession\nn\nm\n"),
+            ("modes n m list", "power2: b power 2;\n--data\nmodes: # modes;on power1;off power2;none power3;\n--\nmodes\nnetlist\nmodels\nmodes\n"),
+            ("modes n m", "--\nmodes\nn\nm\n"),
             ("gen 0 1", "--\ngen\n0\n1\n"),
         ):
             program = [str(self.top / "bin" / "cvc"), "--unproved", *words.split()]
@@ -122,10 +130,10 @@ class Words(unittest.TestCase):
     def test_help_names_each_command_and_status(self):
         told = subprocess.run([str(self.top / "bin" / "cvc"), "--help"], capture_output=True, text=True, timeout=60).stdout
         manual = (ROOT / "docs" / "cvc.1").read_text()
-        for command in ("check", "serial", "gen", "prove", "verify", "expect", "session"):
+        for command in ("check", "serial", "gen", "prove", "verify", "expect", "modes", "session"):
             self.assertIn(f"bin/cvc {command} ", told)
             self.assertIn(f".B cvc {command}\n", manual)
-        for status in (*range(12), 13, 14, 70):
+        for status in (*range(15), 70):
             self.assertIn(f"\n{status:4}  ", told)
 
     def test_every_word_is_explained(self):
@@ -133,7 +141,7 @@ class Words(unittest.TestCase):
         causes = (ROOT / "crates" / "cvc_base" / "src" / "cause.rt").read_text()
         words = {part.split('"')[0] for part in causes.split('b"')[1:]}
         self.assertIn("bad-row", words)
-        for word in sorted(words | {"not-there"}):
+        for word in sorted(words | {"too-many-modes", "not-there"}):
             self.assertIn(f"\n| `{word}` | ", table)
 
 
